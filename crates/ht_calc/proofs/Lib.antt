@@ -1,0 +1,9 @@
+pub mod CanonicalTexts
+pub mod Cuts
+pub mod Ends
+pub mod Lines
+pub mod Numbers
+pub mod Reading
+pub mod RowTexts
+pub mod Runs
+pub mod WordTexts

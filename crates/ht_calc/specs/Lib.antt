@@ -1,0 +1,10 @@
+pub use Rattle.ht_pair.specs.Actions
+pub use Rattle.ht_out.specs.Counts
+pub mod Texts
+pub mod Lines
+pub mod Answers
+pub mod States
+pub mod Steps
+pub mod Runs
+pub mod Statuses
+pub mod Tables

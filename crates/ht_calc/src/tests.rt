@@ -1,0 +1,198 @@
+//! What no clause says: that calls succeed where there is memory, and worked rows as texts.
+ghost use Rattle.std.specs.Prelude.{◌<◌, ◌^◌, ◌-◌, All};
+
+use crate::{Answer, Session, Status, run};
+use ht_out::{FileEntry, Files, Library, MemLibrary, MemSink, MemSource};
+use ht_pair::{Element, Row, Rows, reduce_rows};
+use ht_word::{Letters, List, Shape, Word};
+use std::alloc::Global;
+use std::process::Abort;
+use std::test::Fail;
+
+// A run over objects in memory that fail at these calls: its status and what it wrote.
+fn run_over(
+    alloc: Global,
+    words: &[String],
+    script: &[u8],
+    reads: &[u64],
+    writes: &[u64],
+) -> Result<(u8, Vec<u8>), Fail>
+    requires reads { All (λ k. k < 2 ^ 64 - 1) reads.now }
+    requires writes { All (λ k. k < 2 ^ 64 - 1) writes.now }
+{
+    let mut source = MemSource::new(
+        Vec::from_slice(alloc, script)?,
+        10,
+        Vec::from_slice(alloc, reads)?,
+    );
+    let mut files = MemLibrary::new(Files::new(alloc), Vec::new(alloc));
+    let mut sink = MemSink::new(alloc, 100_000, 7, Vec::from_slice(alloc, writes)?)?;
+    let status = run(alloc, words, &mut source, &mut files, &mut sink);
+    Ok((status.number(), Vec::from_slice(alloc, sink.held())?))
+}
+
+// A script over objects in memory that don't fail ends with this status and writes this text.
+fn expect_run(
+    rt: &impl Abort,
+    alloc: Global,
+    script: &[u8],
+    status: Status,
+    text: &[u8],
+) -> Result<(), Fail> {
+    let (number, written) = run_over(alloc, &[], script, &[], &[])?;
+    assert_eq!(rt; number, status.number());
+    assert_eq!(rt; written.as_slice(), text);
+    Ok(())
+}
+
+#[test]
+fn answers_good_lines(rt: HostRuntime) -> Result<(), Fail> {
+    let alloc = rt.alloc();
+    expect_run(
+        &rt,
+        alloc,
+        b"group 2 1\nreduce x1.11>x1.21;x1.12>x1.22;x1.2>x1.1",
+        Status::Done,
+        b"group 2 1\nx1.1>x1.2;x1.2>x1.1\n",
+    )?;
+    expect_run(
+        &rt,
+        alloc,
+        b"group 2 1\nreduce x1.22>x1.22;x1.11>x1.11;x1.21>x1.21;x1.12>x1.12\n",
+        Status::Done,
+        b"group 2 1\nx1>x1\n",
+    )?;
+    expect_run(&rt, alloc, b"\n\n", Status::Done, b"")?;
+    expect_run(&rt, alloc, b"", Status::Done, b"")
+}
+
+#[test]
+fn answers_bad_lines(rt: HostRuntime) -> Result<(), Fail> {
+    let alloc = rt.alloc();
+    expect_run(
+        &rt,
+        alloc,
+        b"group 2 1\nreduce x1.1>x1.1\nreduce x1.1>x1.1;x1.2>x1.1\nreduce x1.1>x1.1;x1.3>x1.2\nreduce x1>x2",
+        Status::SomeRefused,
+        b"group 2 1\nrefused: rows\nrefused: rows\nrefused: rows\nrefused: rows\n",
+    )?;
+    expect_run(
+        &rt,
+        alloc,
+        b"reduce x1>x1\ngroup 1 1\ngroup 2 1",
+        Status::SomeRefused,
+        b"refused: group\nrefused: group\ngroup 2 1\n",
+    )?;
+    expect_run(
+        &rt,
+        alloc,
+        b"group 02 1\n \n\0\xff\n",
+        Status::SomeRefused,
+        b"refused: syntax\nrefused: syntax\nrefused: syntax\n",
+    )
+}
+
+#[test]
+fn ends_with_its_status(rt: HostRuntime) -> Result<(), Fail> {
+    let alloc = rt.alloc();
+    let (number, written) = run_over(alloc, &[], b"group 2 1\n\n", &[1], &[])?;
+    assert_eq!(rt; number, Status::ReadFault.number());
+    assert_eq!(rt; written.len(), 0);
+    let (number, written) = run_over(alloc, &[], b"group 2 1\n\n", &[], &[1])?;
+    assert_eq!(rt; number, Status::WriteFault.number());
+    assert_eq!(rt; written.as_slice(), &b"group 2"[..]);
+    let (number, written) = run_over(
+        alloc,
+        &[String::from_str(alloc, "x")?],
+        b"group 2 1",
+        &[],
+        &[],
+    )?;
+    assert_eq!(rt; number, Status::BadWords.number());
+    assert_eq!(rt; written.len(), 0);
+    assert_eq!(rt; run_line_feeds(alloc, 65_536)?, Status::Done.number());
+    assert_eq!(rt; run_line_feeds(alloc, 65_537)?, Status::TooLong.number());
+    Ok(())
+}
+
+// The status of a run over this many line feeds.
+fn run_line_feeds(alloc: Global, count: usize) -> Result<u8, Fail> {
+    let (number, _) = run_over(alloc, &[], &vec![in alloc; b'\n'; count]?, &[], &[])?;
+    Ok(number)
+}
+
+#[test]
+fn words_find_memory(rt: HostRuntime) -> Result<(), Fail> {
+    let alloc = rt.alloc();
+    let mut word = Word::new(alloc, 1);
+    word.push(2)?;
+    let child = word.child(alloc, 1)?;
+    assert!(rt; child.same(&word.joined(alloc, &[1])?));
+    assert!(rt; child.same(&child.copy(alloc)?));
+    Ok(())
+}
+
+#[test]
+fn letters_find_memory(rt: HostRuntime) -> Result<(), Fail> {
+    let mut letters = Letters::from_slice(rt.alloc(), &[2])?;
+    letters.push(1)?;
+    letters.extend(&[3])?;
+    assert_eq!(rt; letters.as_slice(), &[2, 1, 3][..]);
+    Ok(())
+}
+
+// The row of the root 1 to itself.
+fn root_rows(alloc: Global) -> Result<Rows, Fail> {
+    let row = Row {
+        from: Word::new(alloc, 1),
+        to: Word::new(alloc, 1),
+    };
+    let mut rows = Rows::new(alloc);
+    rows.push(row.copy(alloc)?)?;
+    Ok(rows)
+}
+
+#[test]
+fn elements_find_memory(rt: HostRuntime) -> Result<(), Fail> {
+    let alloc = rt.alloc();
+    let shape = Shape::new(2, 1)?;
+    let element = Element::of_rows(alloc, shape, root_rows(alloc)?)?;
+    assert_eq!(rt; element.row_count(), 1);
+    assert_eq!(rt; element.longest(), 0);
+    assert_eq!(rt; element.shape(), shape);
+    assert_eq!(rt; element.rows(alloc)?.len(), 1);
+    Ok(())
+}
+
+#[test]
+fn reduction_finds_memory(rt: HostRuntime) -> Result<(), Fail> {
+    let alloc = rt.alloc();
+    let shape = Shape::new(2, 1)?;
+    let element = Element::of_rows(alloc, shape, root_rows(alloc)?)?;
+    let _ = element.row_count();
+    let rows = element.rows(alloc)?;
+    assert_eq!(rt; reduce_rows(alloc, element.shape(), rows)?.len(), 1);
+    Ok(())
+}
+
+#[test]
+fn the_outside_finds_memory(rt: HostRuntime) -> Result<(), Fail> {
+    let alloc = rt.alloc();
+    let mut files = Files::new(alloc);
+    files.push(FileEntry {
+        name: List::from_vec(Vec::from_slice(alloc, b"b.ht")?),
+        bytes: List::new(alloc),
+    })?;
+    let mut library = MemLibrary::new(files, Vec::new(alloc));
+    assert_eq!(rt; library.fetch(alloc, "b.ht", 9)?.len(), 0);
+    Ok(())
+}
+
+#[test]
+fn a_session_finds_memory(rt: HostRuntime) -> Result<(), Fail> {
+    let alloc = rt.alloc();
+    let mut library = MemLibrary::new(Files::new(alloc), Vec::new(alloc));
+    let answer = Session::new(1).answer(alloc, b"group 2 1", &mut library)?;
+    assert!(rt; matches!(answer, Answer::Group { n: 2, r: 1 }));
+    Ok(())
+}

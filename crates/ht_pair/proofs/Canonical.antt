@@ -1,0 +1,84 @@
+-- The canonical pair of a sorted pair: all merges made along the rows.
+use Rattle.std.proofs.Common.{◌≤◌, List, [], ◌∷◌, ◌++◌, map, sym, subst, append_assoc, append-nil, arith, Contains, IsPermutation}
+use Rattle.std.proofs.lemmas.List.Elements.{Contains-append_left}
+use Rattle.std.proofs.lemmas.List.Sorted.{Contains-permutation, IsPermutation-sym, length_permutation}
+use Rattle.ht_word.specs.declared.word.Word.{Word}
+use Rattle.ht_word.specs.declared.shape.Shape.{Shape}
+use Rattle.ht_word.specs.Words.{IsAscending}
+use Rattle.ht_word.proofs.ListLaws.{Contains-nil, Contains-map, contained_in_map, AllPairs-from_map}
+use Rattle.ht_pair.specs.declared.row.Row.{Row}
+use Rattle.ht_pair.specs.Bases.{longest}
+use Rattle.ht_pair.specs.Pairs.{IsPair, from_words}
+use Rattle.ht_pair.specs.Actions.{Moves, child_row, IsReduced}
+use Rattle.ht_pair.specs.Merges.{Merges, IsAdded, IsReducedOf}
+use Rattle.ht_pair.specs.Merges.Merges.{unmerged}
+use Rattle.ht_pair.proofs.BasisLaws.{basis_word, longest_bounds, longest_least}
+use Rattle.ht_pair.proofs.ConeOrder.{IsBefore, before_from, before_less}
+use Rattle.ht_pair.proofs.Siblings.{AreOrdered, ordered_front}
+use Rattle.ht_pair.proofs.Carets.{still_reduced}
+use Rattle.ht_pair.proofs.MergeLaws.{IsOrderedPair, merges_ordered, merges_fewer, merges_shorter, merges_moves, merges_then, merges_behind}
+use Rattle.ht_pair.proofs.MovesLaws.{moves_single}
+
+-- a prefix-free ascending list is in order of cones
+pub ordered_pair : (shape : Shape) (p : List Row) → IsPair shape p → IsAscending (from_words p) → IsOrderedPair shape p
+ordered_pair shape p pair ascending = record { pair = pair; before = λ i j d l m. before_from _ _ (ascending i j d l m) (pair.from.prefix_free i j d l m) }
+
+ordered_rows : (shape : Shape) (p : List Row) → IsOrderedPair shape p → AreOrdered shape p
+ordered_rows shape p h = record {
+  words = λ row c. basis_word shape (from_words p) h.pair.from row.from (Contains-map (λ (t : Row). t.from) p row c);
+  before = AllPairs-from_map (λ (t : Row). t.from) IsBefore p h.before;
+}
+
+-- the rows up to the rest have been merged
+pub record AreMergedUpTo (shape : Shape) (rows done rest : List Row) : Type 0 where
+  pub merges : Merges shape rows (done ++ rest)
+  pub reduced : IsReduced shape done
+
+-- before the first row
+pub none_merged : (shape : Shape) (rows : List Row) → AreMergedUpTo shape rows [] rows
+none_merged shape rows = record { merges = unmerged; reduced = λ u v all. Contains-nil (child_row u v 1) (all 1 (omega arith) (omega (arith, shape.letters_low))) }
+
+-- and after one more row
+pub one_more_merged : (shape : Shape) (rows done rest added : List Row) (row : Row) → IsOrderedPair shape rows → AreMergedUpTo shape rows done (row ∷ rest) → IsAdded shape done row added → AreMergedUpTo shape rows added rest
+one_more_merged shape rows done rest added row ordered h step =
+    let before : Merges shape rows ((done ++ row ∷ []) ++ rest) = subst (Merges shape rows) (sym (append_assoc done (row ∷ []) rest)) h.merges in
+    let after : Merges shape ((done ++ row ∷ []) ++ rest) (added ++ rest) = merges_behind shape (done ++ row ∷ []) added rest (subst (Merges shape (done ++ row ∷ [])) (sym step.added_is) step.down.merges) in
+    let merges : Merges shape rows (added ++ rest) = merges_then shape rows ((done ++ row ∷ []) ++ rest) (added ++ rest) before after in
+    let all_ordered : AreOrdered shape added = ordered_front shape added rest (ordered_rows shape (added ++ rest) (merges_ordered shape rows (added ++ rest) merges ordered)) in
+    let front_reduced : IsReduced shape step.front = λ u v all. h.reduced u v (λ a low high. subst (λ t. Contains t (child_row u v a)) (sym step.down.rows_are) (Contains-append_left step.front step.down.taken (child_row u v a) (all a low high))) in
+    record {
+      merges = merges;
+      reduced = subst (IsReduced shape) (sym step.added_is) (still_reduced shape step.front step.last (subst (AreOrdered shape) step.added_is all_ordered) front_reduced step.open_end);
+    }
+
+-- where all rows have been merged, they are the canonical pair
+pub all_merged : (shape : Shape) (p q : List Row) → IsOrderedPair shape p → AreMergedUpTo shape p q [] → IsReducedOf shape p q
+all_merged shape p q before h =
+    let merges : Merges shape p q = subst (Merges shape p) (append-nil q) h.merges in
+    let ordered : IsOrderedPair shape q = merges_ordered shape p q merges before in
+    record {
+      canonical = record {
+        form = record { pair = ordered.pair; reduced = h.reduced; ascending = λ i j d l m. before_less _ _ (ordered.before i j d l m) };
+        alike = λ w v v' k m m'. moves_single q ordered.pair.from.prefix_free w v v' m (merges_moves shape p q merges w v' m');
+      };
+      fewer = merges_fewer shape p q merges;
+      shorter = merges_shorter shape p q merges;
+    }
+
+-- ---- rows in another order
+
+moves_permuted : (p q : List Row) → IsPermutation p q → (w t : Word) → Moves p w t → Moves q w t
+moves_permuted p q perm w t m = record { row = m.row; rest = m.rest; listed = Contains-permutation p q m.row perm m.listed; from = m.from; to = m.to }
+
+longest_permuted : (side : Row → Word) (p q : List Row) → IsPermutation p q → longest (map side q) ≤ longest (map side p)
+longest_permuted side p q perm = longest_least (map side q) (longest (map side p)) (λ w c.
+    let g = contained_in_map side q w c in
+    longest_bounds (map side p) w (subst (Contains (map side p)) g.2 (Contains-map side p g.0 (Contains-permutation q p g.0 (IsPermutation-sym p q perm) g.1))))
+
+-- the canonical pair of rows is that of the rows in another order
+pub reduced_permuted : (shape : Shape) (rows sorted q : List Row) → IsPermutation rows sorted → IsReducedOf shape sorted q → IsReducedOf shape rows q
+reduced_permuted shape rows sorted q perm h = record {
+  canonical = record { form = h.canonical.form; alike = λ w v v' k m m'. h.canonical.alike w v v' k m (moves_permuted rows sorted perm w v' m') };
+  fewer = omega (arith, h.fewer, length_permutation rows sorted perm);
+  shorter = omega (arith, h.shorter, longest_permuted (λ row. row.from) rows sorted perm, longest_permuted (λ row. row.to) rows sorted perm);
+}

@@ -1,0 +1,12 @@
+pub mod Sequences
+pub mod BasisLaws
+pub mod Merging
+pub mod ConeOrder
+pub mod Tilings
+pub mod TilingTests
+pub mod Sorting
+pub mod Siblings
+pub mod Carets
+pub mod MovesLaws
+pub mod MergeLaws
+pub mod Canonical

@@ -1,0 +1,23 @@
+//! Elements of the group G(n, r): pairs of bases, and the one reduced pair of each element.
+//!
+//! A pair sends the cone of each `from` word to the cone of the `to` word beside it.
+//! `Element::of_rows(alloc, shape, rows)?.rows(alloc)?` gives the reduced rows, in order.
+//!
+//! - `row`: rows and lists of rows
+//! - `element`: elements, made from rows
+//! - `reduce`: the reduced rows of a pair
+//! - `pair`: the test whether rows are a pair
+//! - `tiling`: the test whether sorted words are a basis
+//! - `side`: the `from` words or the `to` words of rows, and sorting by them
+#![tactic(auto)]
+
+mod element;
+mod pair;
+mod reduce;
+mod row;
+mod side;
+mod tiling;
+
+pub use element::{Element, RowsFault};
+pub use reduce::reduce_rows;
+pub use row::{Row, Rows};

@@ -1,0 +1,22 @@
+//! Want of memory.
+
+use std::alloc::{AllocError, AllocFailed};
+use thiserror::Error;
+
+/// No memory was found. It is a fault of its own in each call that allocates, and no clause says
+/// when it comes.
+#[derive(Clone, Copy, Debug, PartialEq, Eq, Error)]
+#[error("out of memory")]
+pub struct NoMemory;
+
+impl From<AllocError> for NoMemory {
+    fn from(_: AllocError) -> Self {
+        NoMemory
+    }
+}
+
+impl<T: Drop> From<AllocFailed<T>> for NoMemory {
+    fn from(_: AllocFailed<T>) -> Self {
+        NoMemory
+    }
+}
