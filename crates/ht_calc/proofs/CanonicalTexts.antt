@@ -9,7 +9,7 @@ use Rattle.ht_word.proofs.ListLaws.{Contains-map}
 use Rattle.ht_pair.specs.declared.row.Row.{Row}
 use Rattle.ht_pair.specs.Pairs.{IsPair, from_words, to_words}
 use Rattle.ht_pair.proofs.BasisLaws.{basis_word}
-use Rattle.ht_calc.specs.Texts.{IsDigitLetter, HasText, HasRowText, HasRowsText}
+use Rattle.ht_text.specs.Texts.{IsDigitLetter, HasText, HasRowText, HasRowsText}
 
 -- a word of a shape has a text
 word_has_text : (shape : Shape) (w : Word) → IsWordOf shape w → HasText w

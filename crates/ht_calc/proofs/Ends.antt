@@ -1,5 +1,5 @@
 -- How a run may end.
-use Rattle.std.proofs.Common.{◌≡◌, ◌≤◌, ℕ, List, [], Bool, length, take, drop, refl, sym, ◌∙◌}
+use Rattle.std.proofs.Common.{◌≤◌, ℕ, List, [], Bool, length, take, drop, refl, sym, ◌∙◌}
 use Rattle.std.proofs.lemmas.List.{take-append-drop}
 use Rattle.ht_calc.specs.declared.status.Status.{Status}
 use Rattle.ht_calc.specs.declared.status.Status.TheVariants.{Done, SomeRefused, BadWords, ReadFault, WriteFault, NoMemory, TooLong}

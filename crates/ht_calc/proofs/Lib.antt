@@ -1,9 +1,6 @@
 pub mod CanonicalTexts
-pub mod Cuts
 pub mod Ends
-pub mod Lines
-pub mod Numbers
+pub mod NameLaws
 pub mod Reading
-pub mod RowTexts
 pub mod Runs
-pub mod WordTexts
+pub mod StepLaws

@@ -1,8 +1,8 @@
 pub use Rattle.ht_pair.specs.Actions
 pub use Rattle.ht_out.specs.Counts
-pub mod Texts
-pub mod Lines
-pub mod Answers
+pub use Rattle.ht_script.specs.Lines
+pub use Rattle.ht_answer.specs.Answers
+pub mod Names
 pub mod States
 pub mod Steps
 pub mod Runs

@@ -3,8 +3,11 @@
 --     lines_of bytes                   the parts between line feeds; behind the last one only what isn't empty
 --     Run old lines answers new        from old, these lines get these answers and lead to new
 --     RunsBy budget lines answers      a run from the first state
+--     output_of answers                their texts, in order
 use Rattle.std.specs.Prelude.{◌≡◌, ◌==◌, ℕ, List, [], ◌∷◌, if◌then◌else◌}
-use Rattle.ht_calc.specs.declared.answer.Answer.{Answer}
+use Rattle.std.specs.List.{flat_map}
+use Rattle.ht_answer.specs.declared.answer.Answer.{Answer}
+use Rattle.ht_answer.specs.Answers.{answer_text}
 use Rattle.ht_calc.specs.States.{State, start}
 use Rattle.ht_calc.specs.Steps.{Step}
 
@@ -25,3 +28,6 @@ Run old (line ∷ lines) [] new = ⊥
 
 abbrev pub RunsBy : ℕ → List (List ℕ) → List Answer → Type 0
 RunsBy budget lines answers = (end : State) × Run (start budget) lines answers end
+
+abbrev pub output_of : List Answer → List ℕ
+output_of answers = flat_map answer_text answers

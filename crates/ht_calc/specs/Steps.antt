@@ -1,29 +1,60 @@
 -- One step of the calculator: what a line is answered, and what the session remembers then.
+-- Where several refusals fit, the first of this order is given: syntax, group, name, names, rows.
 --
---     Does old line answer new     from the state old this line gets this answer and leads to new
---     Step old bytes answer new    the same for the bytes of a line, which may be no line
-use Rattle.std.specs.Prelude.{◌≡◌, ◌⊎◌, ℕ, List, Some, None, IsSome}
+--     NeedsGroup line                    the line is any but a blank one and `group`
+--     IsRowsRefusal shape rows why       the refusal says why the rows are no element
+--     Does old line answer new           from the state old this line gets this answer and leads to new
+--     Step old bytes answer new          the same for the bytes of a line, which may be no line
+use Rattle.std.specs.Prelude.{◌≡◌, ◌⊎◌, ℕ, suc, List, length, Some, None, IsSome, ⊤}
 use Rattle.ht_word.specs.declared.shape.Shape.{Shape}
 use Rattle.ht_word.specs.Shapes.{IsShape}
 use Rattle.ht_pair.specs.declared.row.Row.{Row}
 use Rattle.ht_pair.specs.Pairs.{IsPair}
 use Rattle.ht_pair.specs.Actions.{IsCanonicalFor}
-use Rattle.ht_calc.specs.declared.line.Line.{Line}
-use Rattle.ht_calc.specs.declared.line.Line.TheVariants as line
-use Rattle.ht_calc.specs.declared.answer.Answer.{Answer}
-use Rattle.ht_calc.specs.declared.answer.Answer.TheVariants.{Blank, Group, Pair, Refused}
-use Rattle.ht_calc.specs.declared.answer.Refusal.TheVariants as refusal
-use Rattle.ht_calc.specs.Lines.{IsLine, IsNoLine}
+use Rattle.ht_pair.specs.RowsFaults.{IsFirstForeign, IsFromFault, IsToFault}
+use Rattle.ht_text.specs.Fronts.{IsLongestFront}
+use Rattle.ht_script.specs.declared.line.Line.{Line}
+use Rattle.ht_script.specs.declared.line.Line.TheVariants as line
+use Rattle.ht_script.specs.Lines.{IsLine, IsNoLine, IsLineText}
+use Rattle.ht_answer.specs.declared.answer.Answer.{Answer}
+use Rattle.ht_answer.specs.declared.answer.Answer.TheVariants.{Blank, Group, Pair, Let, Refused}
+use Rattle.ht_answer.specs.declared.answer.Refusal.{Refusal}
+use Rattle.ht_answer.specs.declared.answer.Refusal.TheVariants as refusal
+use Rattle.ht_calc.specs.Names.{bound, bind, HasRoom}
 use Rattle.ht_calc.specs.States.{State}
+
+abbrev pub NeedsGroup : Line → Type 0
+NeedsGroup line.Blank = ⊥
+NeedsGroup (line.Group n r) = ⊥
+NeedsGroup (line.Reduce rows) = ⊤
+NeedsGroup (line.LetRows name rows) = ⊤
+NeedsGroup (line.Show name) = ⊤
+
+abbrev pub IsRowsRefusal : Shape → List Row → Refusal → Type 0
+IsRowsRefusal shape rows (refusal.Syntax column) = ⊥
+IsRowsRefusal shape rows refusal.Group = ⊥
+IsRowsRefusal shape rows (refusal.Name name) = ⊥
+IsRowsRefusal shape rows refusal.Names = ⊥
+IsRowsRefusal shape rows (refusal.RowsForeign place) = IsFirstForeign shape rows place
+IsRowsRefusal shape rows refusal.RowsFrom = IsFromFault shape rows
+IsRowsRefusal shape rows refusal.RowsTo = IsToFault shape rows
 
 pub data Does (old : State) : Line → Answer → State → Type 0 where
   blank : Does old line.Blank Blank old
   group_is_set : (n r : ℕ) (shape : Shape) → old.shape ≡ None → shape.n ≡ n → shape.r ≡ r → Does old (line.Group n r) (Group n r) (record old { shape = Some shape })
   group_refused : (n r : ℕ) → IsSome old.shape ⊎ ¬ IsShape n r → Does old (line.Group n r) (Refused refusal.Group) old
+  before_group : (line : Line) → NeedsGroup line → old.shape ≡ None → Does old line (Refused refusal.Group) old
   reduced : (rows canonical : List Row) (shape : Shape) → old.shape ≡ Some shape → IsPair shape rows → IsCanonicalFor shape canonical rows → Does old (line.Reduce rows) (Pair canonical) old
-  reduce_before_group : (rows : List Row) → old.shape ≡ None → Does old (line.Reduce rows) (Refused refusal.Group) old
-  rows_refused : (rows : List Row) (shape : Shape) → old.shape ≡ Some shape → ¬ IsPair shape rows → Does old (line.Reduce rows) (Refused refusal.Rows) old
+  reduce_refused : (rows : List Row) (shape : Shape) (why : Refusal) → old.shape ≡ Some shape → IsRowsRefusal shape rows why → Does old (line.Reduce rows) (Refused why) old
+  let_bound : (name : List ℕ) (rows canonical : List Row) (shape : Shape) → old.shape ≡ Some shape → HasRoom old.names name → IsPair shape rows → IsCanonicalFor shape canonical rows
+      → Does old (line.LetRows name rows) (Let name (length canonical)) (record old { names = bind old.names name canonical })
+  let_no_room : (name : List ℕ) (rows : List Row) → IsSome old.shape → ¬ HasRoom old.names name → Does old (line.LetRows name rows) (Refused refusal.Names) old
+  let_refused : (name : List ℕ) (rows : List Row) (shape : Shape) (why : Refusal) → old.shape ≡ Some shape → HasRoom old.names name → IsRowsRefusal shape rows why
+      → Does old (line.LetRows name rows) (Refused why) old
+  shown : (name : List ℕ) (rows : List Row) → IsSome old.shape → bound old.names name ≡ Some rows → Does old (line.Show name) (Pair rows) old
+  show_unbound : (name : List ℕ) → IsSome old.shape → bound old.names name ≡ None → Does old (line.Show name) (Refused (refusal.Name name)) old
 
+-- bytes that are no line are refused with the column behind their longest front that some line has
 pub data Step (old : State) (bytes : List ℕ) : Answer → State → Type 0 where
   by_line : (line : Line) (answer : Answer) (new : State) → IsLine bytes line → Does old line answer new → Step old bytes answer new
-  no_line : IsNoLine bytes → Step old bytes (Refused refusal.Syntax) old
+  no_line : (k : ℕ) → IsNoLine bytes → IsLongestFront IsLineText bytes k → Step old bytes (Refused (refusal.Syntax (suc k))) old

@@ -6,11 +6,11 @@
 --     Table .. T O status              what holds at this status
 use Rattle.std.specs.Prelude.{◌≡◌, ℕ, ◌+◌, ◌-◌, ◌^◌, ◌<◌, ◌≤◌, ◌↔◌, min, max, List, [], ◌++◌, length, take, Bool, true, false, IsTrue, Option, Any}
 use Rattle.std.specs.Io.KnownBytes.{Consumes}
-use Rattle.ht_calc.specs.declared.answer.Answer.{Answer}
+use Rattle.ht_answer.specs.declared.answer.Answer.{Answer}
 use Rattle.ht_calc.specs.declared.status.Status.{Status}
 use Rattle.ht_calc.specs.declared.status.Status.TheVariants.{Done, SomeRefused, BadWords, ReadFault, WriteFault, NoMemory, TooLong}
-use Rattle.ht_calc.specs.Answers.{IsRefusal, output_of}
-use Rattle.ht_calc.specs.Runs.{RunsBy, lines_of}
+use Rattle.ht_answer.specs.Answers.{IsRefusal}
+use Rattle.ht_calc.specs.Runs.{RunsBy, lines_of, output_of}
 
 pub record Took (left_old left_new : Option (List ℕ)) (taken_old taken_new : ℕ) (bytes : List ℕ) : Type 0 where
   pub left : Consumes left_old left_new bytes

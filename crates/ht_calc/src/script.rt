@@ -1,15 +1,15 @@
 //! A run over a whole script.
-ghost use Rattle.std.specs.Prelude.{◌≡◌, ◌≢◌, ◌≤◌, ◌<◌, ◌∷◌, ◌↔◌, [], List, ℕ, length, take, All, IfOk, OnOk, MatchOption, MatchResult};
+ghost use Rattle.std.specs.Prelude.{◌≡◌, ◌≢◌, ◌≤◌, ◌<◌, ◌∷◌, ◌↔◌, [], List, ℕ, length, take, All, Any, IsTrue, IfOk, OnOk, MatchOption, MatchResult};
 ghost use Rattle.std.specs.Io.KnownBytes.{Appends, IsAtEnd};
 ghost use Rattle.ht_out.specs.Counts.{Rose, HasCause};
-ghost use Rattle.ht_calc.specs.Answers.{HasAnswerText};
-ghost use Rattle.ht_calc.specs.Runs.{RunsBy, lines_of};
+ghost use Rattle.ht_answer.specs.Answers.{IsRefusal, HasAnswerText};
+ghost use Rattle.ht_calc.specs.Runs.{RunsBy, lines_of, output_of};
 ghost use Rattle.ht_calc.specs.Tables.{Took, Table, Replies, StopsEarly};
 
-use crate::answer::{print_all, some_refused};
-use crate::bytes::cut;
-use crate::{Answer, Session, Status};
+use crate::{Session, Status};
+use ht_answer::{Answer, print};
 use ht_out::{Failed, Library, Sink, Source};
+use ht_text::cut;
 use ht_word::NoMemory;
 use std::alloc::Global;
 
@@ -112,7 +112,7 @@ fn answer_all<L: Library>(
     ensures texts { IfOk result (λ answers. All HasAnswerText answers.items) }
     ensures files { files.new ≡ files.old }
 {
-    let mut session = Session::new(DEFAULT_BUDGET);
+    let mut session = Session::new(alloc, DEFAULT_BUDGET);
     let mut answers = Vec::new(alloc);
     let mut rest = script;
     'lines: while let Some((line, after)) = first_line(rest) {
@@ -134,6 +134,25 @@ fn first_line(bytes: &[u8]) -> Option<(&[u8], &[u8])>
         None if bytes.is_empty() => None,
         None => Some((bytes, &[])),
     }
+}
+
+// The texts of all answers, in order. One pass over them.
+fn print_all(alloc: Global, answers: &[Answer]) -> Result<Vec<u8>, NoMemory>
+    requires { All HasAnswerText answers.now }
+    ensures { IfOk result (λ text. text.items ≡ output_of answers.now) }
+{
+    let mut text = Vec::new(alloc);
+    for answer in answers {
+        print(answer, &mut text)?;
+    }
+    Ok(text)
+}
+
+// Whether an answer is a refusal.
+fn some_refused(answers: &[Answer]) -> bool
+    ensures { IsTrue result ↔ Any IsRefusal answers.now }
+{
+    answers.iter().any(|answer| answer.is_refusal())
 }
 
 // Puts all of the text.

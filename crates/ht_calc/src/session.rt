@@ -1,24 +1,29 @@
 //! A session: what is remembered from line to line.
 ghost use Rattle.std.specs.Prelude.{◌≡◌, ◌≢◌, ◌≤◌, All, List, ℕ, length, IfOk, OnErr};
+ghost use Rattle.ht_word.specs.declared.shape.Shape.{Shape};
 ghost use Rattle.ht_pair.specs.declared.row.Row.{Row};
-ghost use Rattle.ht_calc.specs.declared.line.Line.TheVariants as line;
-ghost use Rattle.ht_calc.specs.Answers.{HasAnswerText};
+ghost use Rattle.ht_pair.specs.RowsFaults.{IsRowsFault};
+ghost use Rattle.ht_script.specs.declared.line.Line.TheVariants as line;
+ghost use Rattle.ht_answer.specs.Answers.{IsRefusal, HasAnswerText};
 ghost use Rattle.ht_calc.specs.States.{start};
-ghost use Rattle.ht_calc.specs.Steps.{Does, Step};
+ghost use Rattle.ht_calc.specs.Steps.{IsRowsRefusal, Does, Step};
 
-use crate::line::{Line, read_line};
-use crate::{Answer, Refusal};
+use crate::bindings::Bindings;
+use ht_answer::{Answer, Refusal};
 use ht_out::Library;
 use ht_pair::{Element, Rows, RowsFault};
-use ht_word::{NoMemory, Shape};
+use ht_script::{Line, LineFault, read_line};
+use ht_word::{Name, NoMemory, Shape};
 use std::alloc::Global;
 use std::marker::Model;
 
-/// A session of the calculator: the group, once it is set, and the budget of expansions.
+/// A session of the calculator: the group, once it is set, the budget of expansions, and the names
+/// that are bound.
 #[derive(Drop)]
 pub struct Session {
     shape: Option<Shape>,
     budget: u32,
+    names: Bindings,
 }
 
 impl Model for Session {
@@ -26,23 +31,25 @@ impl Model for Session {
 
     ghost Value = { State };
 
-    ghost view = { λ s. record { shape = s.shape; budget = s.budget } };
+    ghost view = { λ session. record { shape = session.shape; budget = session.budget; names = session.names } };
 }
 
 impl Session {
-    /// A session with no group. The budget is in expansions. Takes no memory.
-    pub fn new(budget: u32) -> Session
+    /// A session with no group and no names. The budget is in expansions. Takes no memory.
+    pub fn new(alloc: Global, budget: u32) -> Session
         requires { (1 ≤ budget) × (budget ≤ 65536) }
         ensures { result ≡ start budget }
     {
         Session {
             shape: None,
             budget,
+            names: Bindings::new(alloc),
         }
     }
 
     /// Answers one line, without its line feed. After a refused answer, and after want of memory,
-    /// the session is as before.
+    /// the session is as before. `reduce` and `let` take as long as the sorting of their rows, and
+    /// `show` as long as the copying of its rows.
     pub fn answer<L: Library>(
         &mut self,
         alloc: Global,
@@ -52,15 +59,30 @@ impl Session {
         requires length { length line.now ≤ 65536 }
         requires one_line { All (λ b. b ≢ 10) line.now }
         ensures step { IfOk result (λ answer. Step self.old line.now answer self.new) }
+        ensures refused { IfOk result (λ answer. IsRefusal answer → self.new ≡ self.old) }
         ensures text { IfOk result HasAnswerText }
         ensures err { OnErr result (self.new ≡ self.old) }
         ensures files { files.new ≡ files.old }
     {
-        match read_line(alloc, line)? {
-            None => Ok(Answer::Refused(Refusal::Syntax)),
-            Some(Line::Blank) => Ok(Answer::Blank),
-            Some(Line::Group { n, r }) => Ok(self.group(n, r)),
-            Some(Line::Reduce(rows)) => self.reduce(alloc, rows),
+        match read_line(alloc, line) {
+            Ok(line) => self.answer_to(alloc, line),
+            Err(LineFault::Syntax { column }) => Ok(Answer::Refused(Refusal::Syntax(column))),
+            Err(LineFault::NoMemory) => Err(NoMemory),
+        }
+    }
+
+    // Answers a line of the grammar.
+    fn answer_to(&mut self, alloc: Global, line: Line) -> Result<Answer, NoMemory>
+        ensures step { IfOk result (λ answer. Does self.old line answer self.new) }
+        ensures text { IfOk result HasAnswerText }
+        ensures err { OnErr result (self.new ≡ self.old) }
+    {
+        match line {
+            Line::Blank => Ok(Answer::Blank),
+            Line::Group { n, r } => Ok(self.group(n, r)),
+            Line::Reduce(rows) => self.reduce(alloc, rows),
+            Line::LetRows { name, rows } => self.bind(alloc, name, rows),
+            Line::Show(name) => self.show(alloc, name),
         }
     }
 
@@ -89,8 +111,57 @@ impl Session {
         };
         match Element::of_rows(alloc, shape, rows) {
             Ok(element) => Ok(Answer::Pair(element.rows(alloc)?)),
-            Err(RowsFault::NotPair) => Ok(Answer::Refused(Refusal::Rows)),
-            Err(RowsFault::NoMemory) => Err(NoMemory),
+            Err(fault) => Ok(Answer::Refused(refusal_of(fault)?)),
         }
+    }
+
+    // The element is made before the session changes, and bound last.
+    fn bind(&mut self, alloc: Global, name: Name, rows: Rows) -> Result<Answer, NoMemory>
+        ensures step { IfOk result (λ answer. Does self.old (line.LetRows name rows) answer self.new) }
+        ensures text { IfOk result HasAnswerText }
+        ensures err { OnErr result (self.new ≡ self.old) }
+    {
+        let Some(shape) = self.shape else {
+            return Ok(Answer::Refused(Refusal::Group));
+        };
+        if !self.names.has_room(&name) {
+            return Ok(Answer::Refused(Refusal::Names));
+        }
+        match Element::of_rows(alloc, shape, rows) {
+            Ok(element) => {
+                let answer = Answer::Let {
+                    name: name.copy(alloc)?,
+                    rows: element.row_count(),
+                };
+                self.names.bind(name, element)?;
+                Ok(answer)
+            }
+            Err(fault) => Ok(Answer::Refused(refusal_of(fault)?)),
+        }
+    }
+
+    fn show(&self, alloc: Global, name: Name) -> Result<Answer, NoMemory>
+        ensures step { IfOk result (λ answer. Does self.now (line.Show name) answer self.now) }
+        ensures text { IfOk result HasAnswerText }
+    {
+        if self.shape.is_none() {
+            return Ok(Answer::Refused(Refusal::Group));
+        }
+        let Some(element) = self.names.get(&name) else {
+            return Ok(Answer::Refused(Refusal::Name(name)));
+        };
+        Ok(Answer::Pair(element.rows(alloc)?))
+    }
+}
+
+// The refusal that says why rows are no element.
+fn refusal_of(fault: RowsFault) -> Result<Refusal, NoMemory>
+    ensures { (shape : Shape) (rows : List Row) → IsRowsFault shape rows fault → IfOk result (IsRowsRefusal shape rows) }
+{
+    match fault {
+        RowsFault::Foreign(place) => Ok(Refusal::RowsForeign(place)),
+        RowsFault::FromNotBasis => Ok(Refusal::RowsFrom),
+        RowsFault::ToNotBasis => Ok(Refusal::RowsTo),
+        RowsFault::NoMemory => Err(NoMemory),
     }
 }

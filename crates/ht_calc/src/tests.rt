@@ -1,10 +1,11 @@
 //! What no clause says: that calls succeed where there is memory, and worked rows as texts.
 ghost use Rattle.std.specs.Prelude.{◌<◌, ◌^◌, ◌-◌, All};
 
-use crate::{Answer, Session, Status, run};
+use crate::{Session, Status, run};
+use ht_answer::Answer;
 use ht_out::{FileEntry, Files, Library, MemLibrary, MemSink, MemSource};
 use ht_pair::{Element, Row, Rows, reduce_rows};
-use ht_word::{Letters, List, Shape, Word};
+use ht_word::{Letters, List, Name, Shape, Word};
 use std::alloc::Global;
 use std::process::Abort;
 use std::test::Fail;
@@ -62,7 +63,7 @@ fn answers_good_lines(rt: HostRuntime) -> Result<(), Fail> {
         Status::Done,
         b"group 2 1\nx1>x1\n",
     )?;
-    expect_run(&rt, alloc, b"\n\n", Status::Done, b"")?;
+    expect_run(&rt, alloc, b"\n\n  \n # no answer", Status::Done, b"")?;
     expect_run(&rt, alloc, b"", Status::Done, b"")
 }
 
@@ -74,21 +75,64 @@ fn answers_bad_lines(rt: HostRuntime) -> Result<(), Fail> {
         alloc,
         b"group 2 1\nreduce x1.1>x1.1\nreduce x1.1>x1.1;x1.2>x1.1\nreduce x1.1>x1.1;x1.3>x1.2\nreduce x1>x2",
         Status::SomeRefused,
-        b"group 2 1\nrefused: rows\nrefused: rows\nrefused: rows\nrefused: rows\n",
+        b"group 2 1\nrefused: rows from\nrefused: rows to\nrefused: rows foreign 2\nrefused: rows foreign 1\n",
     )?;
     expect_run(
         &rt,
         alloc,
-        b"reduce x1>x1\ngroup 1 1\ngroup 2 1",
+        b"reduce x1>x1\nlet a = x1>x1\nshow a\ngroup 1 1\ngroup 2 1\ngroup 2 1",
         Status::SomeRefused,
-        b"refused: group\nrefused: group\ngroup 2 1\n",
+        b"refused: group\nrefused: group\nrefused: group\nrefused: group\ngroup 2 1\nrefused: group\n",
+    )
+}
+
+#[test]
+fn binds_and_shows_names(rt: HostRuntime) -> Result<(), Fail> {
+    let alloc = rt.alloc();
+    expect_run(
+        &rt,
+        alloc,
+        b"group 2 1\nlet a = x1.1>x1.2;x1.2>x1.1\nlet a = x1.1>x1.2\nshow a\nlet b = x1.1>x1.1;x1.2>x1.2\nlet a = x1>x1\nshow a\n show  b \nshow c",
+        Status::SomeRefused,
+        b"group 2 1\nlet a 2\nrefused: rows from\nx1.1>x1.2;x1.2>x1.1\nlet b 1\nlet a 1\nx1>x1\nx1>x1\nrefused: name c\n",
+    )
+}
+
+// With 256 names bound, one of them is bound anew, and one more is refused.
+#[test]
+fn binds_256_names(rt: HostRuntime) -> Result<(), Fail> {
+    let alloc = rt.alloc();
+    let mut script = Vec::from_slice(alloc, b"group 2 1\n")?;
+    let mut text = Vec::from_slice(alloc, b"group 2 1\n")?;
+    for first in b'a'..b'q' {
+        for second in b'a'..b'q' {
+            script.extend_from_slice(&[b'l', b'e', b't', b' ', first, second])?;
+            script.extend_from_slice(b" = x1>x1\n")?;
+            text.extend_from_slice(&[b'l', b'e', b't', b' ', first, second])?;
+            text.extend_from_slice(b" 1\n")?;
+        }
+    }
+    script.extend_from_slice(b"let qa = x1>x2\nlet aa = x1.1>x1.2;x1.2>x1.1\nshow aa\n")?;
+    text.extend_from_slice(b"refused: names\nlet aa 2\nx1.1>x1.2;x1.2>x1.1\n")?;
+    expect_run(&rt, alloc, &script, Status::SomeRefused, &text)
+}
+
+#[test]
+fn names_columns(rt: HostRuntime) -> Result<(), Fail> {
+    let alloc = rt.alloc();
+    expect_run(
+        &rt,
+        alloc,
+        b"reduc x1\nshow\nshew a\nreduce x1.1>\nreduce x1.0>x1\nlet x = a\ngroup 02 1\ngroup 2\ngroup 2 1 3\ngroup 12345 1\nGroup 2 1",
+        Status::SomeRefused,
+        b"refused: syntax 6\nrefused: syntax 5\nrefused: syntax 3\nrefused: syntax 13\nrefused: syntax 11\nrefused: syntax 5\nrefused: syntax 8\nrefused: syntax 8\nrefused: syntax 11\nrefused: syntax 11\nrefused: syntax 1\n",
     )?;
     expect_run(
         &rt,
         alloc,
-        b"group 02 1\n \n\0\xff\n",
+        b"let a x1>x1\nlet a =\nlet a= x1>x1\nreduce x01>x1\nreduce x1>x1;\nreduce x1>x1 x\nshow 1a\nshow aaaaaaaaaaaaaaaaaaaaaaaaaaaaaaaaa\n\0\xff\n\tgroup 2 1",
         Status::SomeRefused,
-        b"refused: syntax\nrefused: syntax\nrefused: syntax\n",
+        b"refused: syntax 7\nrefused: syntax 8\nrefused: syntax 6\nrefused: syntax 9\nrefused: syntax 14\nrefused: syntax 14\nrefused: syntax 6\nrefused: syntax 38\nrefused: syntax 1\nrefused: syntax 1\n",
     )
 }
 
@@ -138,6 +182,14 @@ fn letters_find_memory(rt: HostRuntime) -> Result<(), Fail> {
     letters.push(1)?;
     letters.extend(&[3])?;
     assert_eq!(rt; letters.as_slice(), &[2, 1, 3][..]);
+    Ok(())
+}
+
+#[test]
+fn names_find_memory(rt: HostRuntime) -> Result<(), Fail> {
+    let mut name = Name::new(rt.alloc());
+    name.push(b'a')?;
+    assert_eq!(rt; name.copy(rt.alloc())?.as_slice(), &b"a"[..]);
     Ok(())
 }
 
@@ -192,7 +244,7 @@ fn the_outside_finds_memory(rt: HostRuntime) -> Result<(), Fail> {
 fn a_session_finds_memory(rt: HostRuntime) -> Result<(), Fail> {
     let alloc = rt.alloc();
     let mut library = MemLibrary::new(Files::new(alloc), Vec::new(alloc));
-    let answer = Session::new(1).answer(alloc, b"group 2 1", &mut library)?;
+    let answer = Session::new(alloc, 1).answer(alloc, b"group 2 1", &mut library)?;
     assert!(rt; matches!(answer, Answer::Group { n: 2, r: 1 }));
     Ok(())
 }

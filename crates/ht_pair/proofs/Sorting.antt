@@ -1,8 +1,9 @@
 -- What sorting leaves of bases and pairs.
-use Rattle.std.proofs.Common.{◌≡◌, ℕ, ◌<◌, inl, inr, Bool, false, true≢false, Option, Some, None, MatchOption, is_lt, List, length, get_or, sym, ap, ◌∙◌, arith, Contains, Less, IsPermutation, IsSorted}
+use Rattle.std.proofs.Common.{◌≡◌, ◌↔◌, ℕ, suc, ◌<◌, ◌+◌, inl, inr, Bool, true, false, true≢false, IsTrue, is_lt, List, ◌∷◌, ◌++◌, length, get_or, take, drop, refl, sym, ap, ◌∙◌, arith, All, Contains, Less, IsPermutation, IsSorted, length-take}
 use Rattle.std.specs.Ordering.{is_eq, eq_by_cmp}
 use Rattle.std.proofs.lemmas.Cmp.{eq_by_cmp_equiv}
-use Rattle.std.proofs.lemmas.List.Elements.{Contains-get_or}
+use Rattle.std.proofs.lemmas.List.Elements.{All-map, Contains-get_or}
+use Rattle.std.proofs.Math.Seq.{split_at}
 use Rattle.std.proofs.lemmas.List.Sorted.{ranks_by, sorted_far, All-permutation, Contains-permutation, IsPermutation-sym, IsPermutation-map, IsPermutation-trans}
 use Rattle.std.proofs.lemmas.Map.Keys.{apart_from_distinct, IsDistinct-from_apart, IsDistinct-IsPermutation}
 use Rattle.ht_word.specs.declared.word.Word.{Word}
@@ -15,7 +16,8 @@ use Rattle.ht_pair.specs.declared.side.Side.{Side}
 use Rattle.ht_pair.specs.declared.side.Side.TheVariants.{From, To}
 use Rattle.ht_pair.specs.Bases.{AreApart, IsPrefixFree, longest, IsBasis}
 use Rattle.ht_pair.specs.Pairs.{IsPair}
-use Rattle.ht_pair.specs.Sides.{word_on, words_on, row_cmp, IsSortedPair}
+use Rattle.ht_pair.specs.Sides.{word_on, words_on, row_cmp, IsSortedSide, IsSortedPair}
+use Rattle.ht_pair.specs.RowsFaults.{IsRowOf, AreRowsOf, IsFirstForeign, IsFromFault, IsToFault}
 use Rattle.ht_pair.proofs.BasisLaws.{some_at, prefix_free_same, basis_holds, basis_from}
 use Rattle.ht_pair.proofs.ConeOrder.{before_less, apart_before}
 
@@ -78,13 +80,60 @@ sorted_pair_is shape rows sorted pair h order = record {
   ascending = (side_sorted shape From rows sorted h order pair.from).1;
 }
 
--- where the `to` words are a basis, the test of the `from` words decides
-pub pair_found : (shape : Shape) (rows moved : List Row) → IsPermutation rows moved → IsBasis shape (words_on To moved) → (found : Option (List Row))
-    → MatchOption found (¬ IsBasis shape (words_on From moved)) (λ sorted. IsPermutation moved sorted × IsBasis shape (words_on From sorted) × IsAscending (words_on From sorted))
-    → MatchOption found (¬ IsPair shape rows) (IsSortedPair shape rows)
-pair_found shape rows moved h to None refused = λ pair. refused (side_permuted shape From rows moved h pair.from)
-pair_found shape rows moved h to (Some sorted) t = record {
-  permuted = IsPermutation-trans rows moved sorted h t.0;
-  pair = record { from = t.1; to = side_permuted shape To moved sorted t.0 to };
-  ascending = t.2;
+-- words of a side of rows of the shape are of the shape
+pub rows_words : (shape : Shape) (side : Side) (rows : List Row) → AreRowsOf shape rows → All (IsWordOf shape) (words_on side rows)
+rows_words shape From rows h = All-map (IsWordOf shape) (word_on From) rows (λ k d l. (h k d l).from)
+rows_words shape To rows h = All-map (IsWordOf shape) (word_on To) rows (λ k d l. (h k d l).to)
+
+-- the test of sorted rows decides whether the side is a basis
+pub side_tested : (shape : Shape) (side : Side) (rows sorted : List Row) (test : Bool) → IsPermutation rows sorted → IsSorted (row_cmp side) sorted
+    → IsTrue test ↔ (IsBasis shape (words_on side sorted) × IsAscending (words_on side sorted)) → IsSortedSide shape side rows sorted test
+side_tested shape side rows sorted test h order told = record {
+  permuted = h;
+  basis = (λ t. side_permuted shape side sorted rows (IsPermutation-sym rows sorted h) (told.0 t).0, λ b. told.1 (side_sorted shape side rows sorted h order b));
+  ascending = λ t. (told.0 t).1;
+}
+
+-- rows sorted by `to`, then by `from`, with both sides a basis
+pub both_sorted : (shape : Shape) (rows by_to by_from : List Row) → IsSortedSide shape To rows by_to true → IsSortedSide shape From by_to by_from true → IsSortedPair shape rows by_from
+both_sorted shape rows by_to by_from to from =
+    let h = IsPermutation-trans rows by_to by_from to.permuted from.permuted in
+    record {
+      permuted = h;
+      pair = record {
+        from = side_permuted shape From by_to by_from from.permuted (from.basis.0 refl);
+        to = side_permuted shape To rows by_from h (to.basis.0 refl);
+      };
+      ascending = from.ascending refl;
+    }
+
+-- the rows in another order are of the shape
+pub rows_permuted : (shape : Shape) (rows moved : List Row) → IsPermutation rows moved → AreRowsOf shape rows → AreRowsOf shape moved
+rows_permuted shape rows moved h all = All-permutation (IsRowOf shape) rows moved h all
+
+-- the `from` words of the rows in order of `to` tell of the rows
+pub from_fault : (shape : Shape) (rows by_to by_from : List Row) → AreRowsOf shape rows → IsPermutation rows by_to → IsSortedSide shape From by_to by_from false → IsFromFault shape rows
+from_fault shape rows by_to by_from all h from = record {
+  of_shape = all;
+  from = λ b. true≢false (sym (from.basis.1 (side_permuted shape From rows by_to h b)));
+}
+
+pub to_fault : (shape : Shape) (rows by_to by_from : List Row) → AreRowsOf shape rows → IsSortedSide shape To rows by_to false → IsSortedSide shape From by_to by_from true → IsToFault shape rows
+to_fault shape rows by_to by_from all to from = record {
+  of_shape = all;
+  from = side_permuted shape From by_to rows (IsPermutation-sym rows by_to to.permuted) (from.basis.0 refl);
+  to = λ b. true≢false (sym (to.basis.1 b));
+}
+
+-- the rows before are of the shape, and this one isn't
+pub first_foreign_at : (shape : Shape) (rows : List Row) (place : ℕ) (row : Row) → place < length rows → row ≡ get_or rows place row → AreRowsOf shape (take place rows)
+    → ¬ IsRowOf shape row → IsFirstForeign shape rows (place + 1)
+first_foreign_at shape rows place row l is before foreign = record {
+  before = take place rows;
+  row = row;
+  behind = drop (suc place) rows;
+  are = split_at rows place row l ∙ ap (λ (t : Row). take place rows ++ t ∷ drop (suc place) rows) (sym is);
+  of_shape = before;
+  foreign = foreign;
+  place_is = omega (arith, length-take {A = Row});
 }

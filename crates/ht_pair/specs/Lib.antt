@@ -6,3 +6,4 @@ pub mod Sides
 pub mod Tilings
 pub mod Merges
 pub mod Elements
+pub mod RowsFaults

@@ -1,36 +1,15 @@
 //! Elements of the group.
-ghost use Rattle.std.specs.Prelude.{◌≡◌, ◌≤◌, length, IfOk, OnOk, IsErrOf};
+ghost use Rattle.std.specs.Prelude.{◌≡◌, ◌≤◌, length, IfOk, IfErr, OnOk};
 ghost use Rattle.ht_pair.specs.Pairs.{IsPair, longest_of};
 ghost use Rattle.ht_pair.specs.Actions.{IsCanonical, IsCanonicalFor};
+ghost use Rattle.ht_pair.specs.RowsFaults.{IsRowsFault};
 
 use crate::pair::sorted_pair;
 use crate::reduce::merge_rows;
-use crate::{Row, Rows};
+use crate::{Row, Rows, RowsFault};
 use ht_word::{NoMemory, Shape};
 use std::alloc::Global;
 use std::marker::Model;
-use thiserror::Error;
-
-/// Why rows are no element.
-#[derive(Clone, Copy, Debug, PartialEq, Eq, Error)]
-pub enum RowsFault {
-    /// The `from` words or the `to` words aren't a basis.
-    #[error("the rows are not a pair of bases")]
-    NotPair,
-    /// No memory was found.
-    #[error("out of memory")]
-    NoMemory,
-}
-
-impl From<NoMemory> for RowsFault {
-    ghost use Rattle.ht_pair.specs.declared.element.RowsFault.TheVariants.{NoMemory};
-
-    ghost from_gives = { λ _ fault. fault ≡ NoMemory };
-
-    fn from(_: NoMemory) -> RowsFault {
-        RowsFault::NoMemory
-    }
-}
 
 /// An element of the group G(n, r): its canonical pair, which is reduced and has its rows in
 /// ascending order of `from` (Higman 1974).
@@ -53,19 +32,18 @@ impl Model for Element {
 }
 
 impl Element {
-    /// The element whose rows these are, in any order, reduced or not. `NotPair` exactly where the
-    /// `from` words or the `to` words are no basis of the shape. Sorts N rows twice by O(N log N)
-    /// comparisons of words, then goes over their letters a few times.
+    /// The element whose rows these are, in any order, reduced or not. `Foreign` names the first
+    /// row with a word outside the shape; `FromNotBasis` comes where the words are of the shape and
+    /// the `from` words are no basis, and `ToNotBasis` where only the `to` words are none. Sorts N
+    /// rows twice by O(N log N) comparisons of words, then goes over their letters a few times.
     pub fn of_rows(alloc: Global, shape: Shape, rows: Rows) -> Result<Element, RowsFault>
         ensures pair { OnOk result (IsPair shape rows) }
         ensures canonical { IfOk result (λ element. (element.shape ≡ shape) × IsCanonicalFor shape element.rows rows) }
         ensures fewer { IfOk result (λ element. length element.rows ≤ length rows) }
         ensures shorter { IfOk result (λ element. longest_of element.rows ≤ longest_of rows) }
-        ensures not_pair { IsErrOf result RowsFault.NotPair → ¬ IsPair shape rows }
+        ensures fault { IfErr result (IsRowsFault shape rows) }
     {
-        let Some(sorted) = sorted_pair(shape, rows)? else {
-            return Err(RowsFault::NotPair);
-        };
+        let sorted = sorted_pair(shape, rows)?;
         let rows = merge_rows(alloc, shape, sorted)?;
         Ok(Element { shape, rows })
     }

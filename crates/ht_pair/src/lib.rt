@@ -5,6 +5,7 @@
 //!
 //! - `row`: rows and lists of rows
 //! - `element`: elements, made from rows
+//! - `fault`: why rows are no element
 //! - `reduce`: the reduced rows of a pair
 //! - `pair`: the test whether rows are a pair
 //! - `tiling`: the test whether sorted words are a basis
@@ -12,12 +13,14 @@
 #![tactic(auto)]
 
 mod element;
+mod fault;
 mod pair;
 mod reduce;
 mod row;
 mod side;
 mod tiling;
 
-pub use element::{Element, RowsFault};
+pub use element::Element;
+pub use fault::RowsFault;
 pub use reduce::reduce_rows;
 pub use row::{Row, Rows};

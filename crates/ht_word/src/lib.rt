@@ -7,17 +7,20 @@
 //! - `letters`: the letters of a word, the first 24 without an allocation
 //! - `shape`: the two numbers n and r, within their limits
 //! - `list`: the list type of the product
+//! - `name`: names, which scripts give to elements
 //! - `memory`: want of memory
 #![tactic(auto)]
 
 mod letters;
 mod list;
 mod memory;
+mod name;
 mod shape;
 mod word;
 
 pub use letters::Letters;
 pub use list::List;
 pub use memory::NoMemory;
+pub use name::Name;
 pub use shape::{BadShape, Shape};
 pub use word::{Word, Words};

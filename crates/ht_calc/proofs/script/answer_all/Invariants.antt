@@ -1,6 +1,6 @@
 use Rattle.std.proofs.Common.{◌≡◌, ◌≤◌, ◌++◌, List, length, All}
-use Rattle.ht_calc.specs.declared.answer.Answer.{Answer}
-use Rattle.ht_calc.specs.Answers.{HasAnswerText}
+use Rattle.ht_answer.specs.declared.answer.Answer.{Answer}
+use Rattle.ht_answer.specs.Answers.{HasAnswerText}
 use Rattle.ht_calc.specs.States.{State, start}
 use Rattle.ht_calc.specs.Runs.{Run, lines_of}
 use Rattle.ht_calc.proofs.script.answer_all.Given as goal

@@ -1,14 +1,25 @@
-use Rattle.std.proofs.Common.{MatchOption}
-use Rattle.std.proofs.lemmas.Result.{IfOk-weaker}
-use Rattle.std.proofs.lemmas.Option.{MatchOption-at_some}
-use Rattle.ht_pair.specs.Pairs.{IsPair}
-use Rattle.ht_pair.specs.Sides.{IsSortedPair}
-use Rattle.ht_pair.proofs.Sorting.{pair_found}
+use Rattle.std.proofs.Common.{subst}
+use Rattle.ht_pair.specs.Sides.{IsSortedSide}
+use Rattle.ht_pair.specs.declared.side.Side.TheVariants.{From, To}
+use Rattle.ht_pair.proofs.Sorting.{rows_permuted, from_fault, to_fault, both_sorted}
 use Rattle.ht_pair.proofs.pair.sorted_pair.Goals as goal
+
+pub sorted_side-requires-2 : goal.sorted_side-requires-2
+sorted_side-requires-2 c = rows_permuted c.args.shape c.args.rows c.in_ok-by_to.by_to c.in_ok-by_to.ensures.permuted (rw c.as_slice.ensures at c.in_default.ensures)
+
+pub returns-then-not-from_is_basis : goal.returns-then-not-from_is_basis
+returns-then-not-from_is_basis c =
+    from_fault c.args.shape c.args.rows c.in_ok-by_to.by_to c.in_ok-by_from.by_from (rw c.as_slice.ensures at c.in_default.ensures) c.in_ok-by_to.ensures.permuted
+    (subst (λ b. IsSortedSide c.args.shape From c.in_ok-by_to.by_to c.in_ok-by_from.by_from b) c.if-not-from_is_basis.true c.in_ok-by_from.ensures)
+
+pub returns-then-not-to_is_basis : goal.returns-then-not-to_is_basis
+returns-then-not-to_is_basis c =
+    to_fault c.args.shape c.args.rows c.in_ok-by_to.by_to c.in_ok-by_from.by_from (rw c.as_slice.ensures at c.in_default.ensures)
+    (subst (λ b. IsSortedSide c.args.shape To c.args.rows c.in_ok-by_to.by_to b) c.if-not-to_is_basis.true c.in_ok-by_to.ensures)
+    (subst (λ b. IsSortedSide c.args.shape From c.in_ok-by_to.by_to c.in_ok-by_from.by_from b) c.if-not-from_is_basis.false c.in_ok-by_from.ensures)
 
 pub returns : goal.returns
 returns c =
-    let by_to = c.in-Some.by_to in
-    let told = MatchOption-at_some _ _ by_to c.in-Some.is c.in_ok-by_to.ensures in
-    IfOk-weaker c.sorted_basis-2.result _ (λ found. MatchOption found (¬ IsPair c.args.shape c.args.rows) (IsSortedPair c.args.shape c.args.rows))
-    (pair_found c.args.shape c.args.rows by_to told.0 told.1) c.sorted_basis-2.ensures
+    both_sorted c.args.shape c.args.rows c.in_ok-by_to.by_to c.in_ok-by_from.by_from
+    (subst (λ b. IsSortedSide c.args.shape To c.args.rows c.in_ok-by_to.by_to b) c.if-not-to_is_basis.false c.in_ok-by_to.ensures)
+    (subst (λ b. IsSortedSide c.args.shape From c.in_ok-by_to.by_to c.in_ok-by_from.by_from b) c.if-not-from_is_basis.false c.in_ok-by_from.ensures)

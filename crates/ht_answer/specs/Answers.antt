@@ -1,0 +1,46 @@
+-- The texts of answers.
+--
+--     IsRefusal answer      the answer is a refusal
+--     HasAnswerText answer  each of its words has a text
+--     number_line text n    a text, a number and the line feed
+--     refusal_text why      the line of a refusal
+--     answer_text answer    the answer's line, with the line feed; nothing for a blank line
+use Rattle.std.specs.Prelude.{ℕ, List, [], ◌++◌, codes, decimal}
+use Rattle.ht_answer.specs.declared.answer.Answer.{Answer}
+use Rattle.ht_answer.specs.declared.answer.Answer.TheVariants.{Blank, Group, Pair, Let, Refused}
+use Rattle.ht_answer.specs.declared.answer.Refusal.{Refusal}
+use Rattle.ht_answer.specs.declared.answer.Refusal.TheVariants as refusal
+use Rattle.ht_text.specs.Texts.{HasRowsText, rows_text}
+
+abbrev pub IsRefusal : Answer → Type 0
+IsRefusal Blank = ⊥
+IsRefusal (Group n r) = ⊥
+IsRefusal (Pair rows) = ⊥
+IsRefusal (Let name rows) = ⊥
+IsRefusal (Refused why) = Unit {0}
+
+abbrev pub HasAnswerText : Answer → Type 0
+HasAnswerText Blank = Unit {0}
+HasAnswerText (Group n r) = Unit {0}
+HasAnswerText (Pair rows) = HasRowsText rows
+HasAnswerText (Let name rows) = Unit {0}
+HasAnswerText (Refused why) = Unit {0}
+
+abbrev pub number_line : List ℕ → ℕ → List ℕ
+number_line text n = text ++ decimal n ++ codes "\n"
+
+abbrev pub refusal_text : Refusal → List ℕ
+refusal_text (refusal.Syntax column) = number_line (codes "refused: syntax ") column
+refusal_text refusal.Group = codes "refused: group\n"
+refusal_text (refusal.Name name) = codes "refused: name " ++ name ++ codes "\n"
+refusal_text refusal.Names = codes "refused: names\n"
+refusal_text (refusal.RowsForeign place) = number_line (codes "refused: rows foreign ") place
+refusal_text refusal.RowsFrom = codes "refused: rows from\n"
+refusal_text refusal.RowsTo = codes "refused: rows to\n"
+
+abbrev pub answer_text : Answer → List ℕ
+answer_text Blank = []
+answer_text (Group n r) = codes "group " ++ decimal n ++ number_line (codes " ") r
+answer_text (Pair rows) = rows_text rows ++ codes "\n"
+answer_text (Let name rows) = codes "let " ++ name ++ number_line (codes " ") rows
+answer_text (Refused why) = refusal_text why

@@ -1,0 +1,3 @@
+pub use Rattle.ht_text.specs.Texts
+pub use Rattle.ht_text.specs.Writes
+pub mod Answers

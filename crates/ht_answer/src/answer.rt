@@ -1,0 +1,49 @@
+//! Answers and refusals.
+ghost use Rattle.std.specs.Prelude.{◌↔◌, IsTrue};
+ghost use Rattle.ht_answer.specs.Answers.{IsRefusal};
+
+use ht_pair::Rows;
+use ht_word::Name;
+
+/// The answer to a line.
+#[derive(Debug, Drop)]
+pub enum Answer {
+    /// To a blank line, which has no text.
+    Blank,
+    /// To `group`: the two numbers given.
+    Group { n: u32, r: u32 },
+    /// The canonical pair asked for.
+    Pair(Rows),
+    /// To `let`: the name, and the number of rows of its canonical pair.
+    Let { name: Name, rows: usize },
+    /// The line changed nothing.
+    Refused(Refusal),
+}
+
+/// Why a line is refused.
+#[derive(Debug, Drop)]
+pub enum Refusal {
+    /// The line isn't in the grammar: the first column, from 1, at which no line goes on.
+    Syntax(usize),
+    /// A group is set already, its numbers are outside the limits, or none is set yet.
+    Group,
+    /// The name isn't bound.
+    Name(Name),
+    /// There is no room for one more name.
+    Names,
+    /// The row of this number, from 1, is the first with a word that isn't of the group's shape.
+    RowsForeign(usize),
+    /// The `from` words of the rows aren't a basis.
+    RowsFrom,
+    /// The `to` words of the rows aren't a basis.
+    RowsTo,
+}
+
+impl Answer {
+    /// Whether the answer is a refusal. Constant time; takes no memory.
+    pub fn is_refusal(&self) -> bool
+        ensures { IsTrue result ↔ IsRefusal self.now }
+    {
+        matches!(self, Answer::Refused(_))
+    }
+}

@@ -1,0 +1,17 @@
+//! Answers to lines, and their texts.
+//!
+//! Each answer but that to a blank line is one line, and a refusal begins with `refused: `.
+//! `print(&Answer::Group { n: 2, r: 1 }, &mut out)?` appends `group 2 1` and a line feed.
+//!
+//! - `answer`: answers and refusals
+//! - `text`: their texts
+//! - `laws`: what the texts tell
+#![tactic(auto)]
+
+mod answer;
+mod laws;
+mod text;
+
+pub use answer::{Answer, Refusal};
+pub use laws::refusals_are_told_by_their_texts;
+pub use text::print;

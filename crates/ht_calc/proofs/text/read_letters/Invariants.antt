@@ -1,7 +1,0 @@
-use Rattle.std.proofs.Common.{◌≡◌, take, All}
-use Rattle.std.specs.Prelude.{map}
-use Rattle.ht_calc.specs.Texts.{IsDigitLetter, letter_code}
-use Rattle.ht_calc.proofs.text.read_letters.Given as goal
-
-abbrev pub invariant-loop-digit : goal.invariant-loop-digit
-invariant-loop-digit l = All IsDigitLetter l.letters × (take l.digit-index l.bytes ≡ map letter_code l.letters)

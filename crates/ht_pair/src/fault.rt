@@ -1,0 +1,32 @@
+//! Why rows are no element.
+
+use ht_word::NoMemory;
+use thiserror::Error;
+
+/// Why rows are no element. Of several reasons the first in this order is given.
+#[derive(Clone, Copy, Debug, PartialEq, Eq, Error)]
+pub enum RowsFault {
+    /// The first row with a word that isn't of the shape, by its number from 1.
+    #[error("row {0} has a word that is not of the shape")]
+    Foreign(usize),
+    /// The `from` words aren't a basis.
+    #[error("the words before the arrows are not a basis")]
+    FromNotBasis,
+    /// The `to` words aren't a basis.
+    #[error("the words behind the arrows are not a basis")]
+    ToNotBasis,
+    /// No memory was found.
+    #[error("out of memory")]
+    NoMemory,
+}
+
+impl From<NoMemory> for RowsFault {
+    ghost use Rattle.std.specs.Prelude.{◌≡◌};
+    ghost use Rattle.ht_pair.specs.declared.fault.RowsFault.TheVariants.{NoMemory};
+
+    ghost from_gives = { λ _ fault. fault ≡ NoMemory };
+
+    fn from(_: NoMemory) -> RowsFault {
+        RowsFault::NoMemory
+    }
+}

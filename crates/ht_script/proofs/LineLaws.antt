@@ -1,0 +1,259 @@
+-- Lines by the word that they begin with.
+use Rattle.std.proofs.Common.{◌≡◌, ◌≢◌, ◌<◌, ◌≤◌, ◌+◌, ◌-◌, ℕ, ◌⊎◌, inl, inr, List, [], ◌∷◌, ◌++◌, length, take, drop, All, Option, Some, None, MatchOption, Bor, refl, sym, ap, ◌∙◌, subst, arith, append_assoc, append-nil, length-append, take-append-drop}
+use Rattle.std.specs.Prelude.{codes}
+use Rattle.std.specs.List.{AllByRecursion}
+use Rattle.std.proofs.lemmas.Bool.{cases_lt}
+use Rattle.std.proofs.lemmas.List.{drop_more, take_all, take_at, nil_from_length, length-take-le}
+use Rattle.std.proofs.lemmas.List.Elements.{recursion_from_All, All-from_recursion, All-take}
+use Rattle.ht_pair.specs.declared.row.Row.{Row}
+use Rattle.ht_text.specs.Fronts.{IsFront, IsLongestFront}
+use Rattle.ht_script.specs.declared.command.Command.{Command}
+use Rattle.ht_script.specs.declared.command.Command.TheVariants as command
+use Rattle.ht_script.specs.declared.line.Line.{Line}
+use Rattle.ht_script.specs.declared.line.Line.TheVariants.{Blank, Group, Reduce, LetRows, Show}
+use Rattle.ht_script.specs.Tokens.{◌▸◌, Is, IsSpaces, IsToken, IsSpaced, IsSpan, IsFirstToken}
+use Rattle.ht_script.specs.Lines.{IsMarked, IsComment, IsNumber, AreRows, IsNamed, IsLine, IsLineText}
+use Rattle.ht_script.specs.Slots.{keyword, slots_of, IsBehind, IsKeyword, IsUnmarked}
+use Rattle.ht_script.proofs.TokenLaws.{AreTokens, BeginsToken, begins, strip, not_spaces, refit, first_fits}
+use Rattle.ht_script.proofs.FrontLaws.{front_map, moved, longest_whole, longest_behind, longest_span, longest_same}
+use Rattle.ht_script.proofs.SpacedFronts.{Fits, TakesSpace, spaces_front, longest_in_token, longest_past_token}
+use Rattle.ht_script.proofs.CommandLaws.{some_behind, space_before, keyword_token, same_command, no_mark}
+
+-- the word of a command, and behind it what its slots take
+pub record CommandFits (token rest : List ℕ) : Type 0 where
+  pub of : Command
+  pub word : token ≡ keyword of
+  pub behind : IsBehind (slots_of of) rest
+
+abbrev pub IsCommandText : List ℕ → Type 0
+IsCommandText bytes = IsSpaced CommandFits bytes
+
+pub command_tokens : AreTokens CommandFits
+command_tokens = λ t r h. subst IsToken (sym h.word) (keyword_token h.of)
+
+pub command_takes_space : TakesSpace CommandFits
+command_takes_space = λ t r h. record { of = h.of; word = h.word; behind = space_before (slots_of h.of) r h.behind }
+
+pub word_fits : (t : List ℕ) → IsKeyword t → Fits CommandFits t
+word_fits t h = let rest = some_behind (slots_of h.0) in (rest.0, record { of = h.0; word = h.1; behind = rest.1 })
+
+pub fits_word : (t : List ℕ) → Fits CommandFits t → IsKeyword t
+fits_word t h = (h.1.of, h.1.word)
+
+-- what stands behind each word, with its values
+pub group_behind : (rest : List ℕ) → IsBehind (slots_of command.Group) rest → (n : ℕ) × (r : ℕ) × (IsNumber n ▸ IsNumber r ▸ IsSpaces) rest
+group_behind rest b =
+    let n = b.fits.0 in
+    let r = b.fits.1.fits.0 in
+    (n.0, r.0, refit _ (λ t u. IsNumber n.0 t × (IsNumber r.0 ▸ IsSpaces) u) rest b (n.1, refit _ (λ t u. IsNumber r.0 t × IsSpaces u) b.rest b.fits.1 (r.1, b.fits.1.fits.1)))
+
+pub reduce_behind : (rest : List ℕ) → IsBehind (slots_of command.Reduce) rest → (rows : List Row) × (AreRows rows ▸ IsSpaces) rest
+reduce_behind rest b = let rows = b.fits.0 in (rows.0, refit _ (λ t u. AreRows rows.0 t × IsSpaces u) rest b (rows.1, b.fits.1))
+
+pub let_behind : (rest : List ℕ) → IsBehind (slots_of command.Let) rest → (name : List ℕ) × (rows : List Row) × (IsNamed name ▸ Is (codes "=") ▸ AreRows rows ▸ IsSpaces) rest
+let_behind rest b =
+    let equals = b.fits.1 in
+    let last = reduce_behind equals.rest equals.fits.1 in (
+      b.token,
+      last.0,
+      refit _ (λ t u. IsNamed b.token t × (Is (codes "=") ▸ AreRows last.0 ▸ IsSpaces) u) rest b (
+        (b.fits.0, refl),
+        refit _ (λ t u. Is (codes "=") t × (AreRows last.0 ▸ IsSpaces) u) b.rest equals (equals.fits.0, last.1),
+      ),
+    )
+
+pub show_behind : (rest : List ℕ) → IsBehind (slots_of command.Show) rest → (name : List ℕ) × (IsNamed name ▸ IsSpaces) rest
+show_behind rest b = (b.token, refit _ (λ t u. IsNamed b.token t × IsSpaces u) rest b ((b.fits.0, refl), b.fits.1))
+
+-- the line of a command
+line_of : (bytes : List ℕ) (s : IsCommandText bytes) (c : Command) → s.token ≡ keyword c → IsBehind (slots_of c) s.rest → IsLineText bytes
+line_of bytes s command.Group word b =
+    let v = group_behind s.rest b in (Group v.0 v.1, refit CommandFits (λ t u. Is (codes "group") t × (IsNumber v.0 ▸ IsNumber v.1 ▸ IsSpaces) u) bytes s (word, v.2))
+line_of bytes s command.Reduce word b =
+    let v = reduce_behind s.rest b in (Reduce v.0, refit CommandFits (λ t u. Is (codes "reduce") t × (AreRows v.0 ▸ IsSpaces) u) bytes s (word, v.1))
+line_of bytes s command.Let word b =
+    let v = let_behind s.rest b in (LetRows v.0 v.1, refit CommandFits (λ t u. Is (codes "let") t × (IsNamed v.0 ▸ Is (codes "=") ▸ AreRows v.1 ▸ IsSpaces) u) bytes s (word, v.2))
+line_of bytes s command.Show word b =
+    let v = show_behind s.rest b in (Show v.0, refit CommandFits (λ t u. Is (codes "show") t × (IsNamed v.0 ▸ IsSpaces) u) bytes s (word, v.1))
+
+pub command_line : (bytes : List ℕ) → IsCommandText bytes → IsLineText bytes
+command_line bytes s = line_of bytes s s.fits.of s.fits.word s.fits.behind
+
+-- the command of a line
+abbrev pub command_for : Line → Option Command
+command_for Blank = None
+command_for (Group n r) = Some command.Group
+command_for (Reduce rows) = Some command.Reduce
+command_for (LetRows name rows) = Some command.Let
+command_for (Show name) = Some command.Show
+
+-- bytes of a line, by its command
+abbrev pub Told : List ℕ → Option Command → Type 0
+Told bytes None = IsSpaces bytes ⊎ IsComment bytes
+Told bytes (Some c) = (Is (keyword c) ▸ IsBehind (slots_of c)) bytes
+
+pub told : (line : Line) (bytes : List ℕ) → IsLine bytes line → Told bytes (command_for line)
+told Blank bytes h = h
+told (Group n r) bytes h =
+    refit _ _ bytes h (h.fits.0, refit _ _ h.rest h.fits.1 ((n, h.fits.1.fits.0), refit _ _ h.fits.1.rest h.fits.1.fits.1 ((r, h.fits.1.fits.1.fits.0), h.fits.1.fits.1.fits.1)))
+told (Reduce rows) bytes h = refit _ _ bytes h (h.fits.0, refit _ _ h.rest h.fits.1 ((rows, h.fits.1.fits.0), h.fits.1.fits.1))
+told (LetRows name rows) bytes h =
+    let named = h.fits.1 in
+    let equals = named.fits.1 in
+    let last = equals.fits.1 in
+    refit _ _ bytes h (h.fits.0, refit _ _ h.rest named (named.fits.0.0, refit _ _ named.rest equals (equals.fits.0, refit _ _ equals.rest last ((rows, last.fits.0), last.fits.1))))
+told (Show name) bytes h = refit _ _ bytes h (h.fits.0, refit _ _ h.rest h.fits.1 (h.fits.1.fits.0.0, h.fits.1.fits.1))
+
+pub command_text : (bytes : List ℕ) (c : Command) → (Is (keyword c) ▸ IsBehind (slots_of c)) bytes → IsCommandText bytes
+command_text bytes c h = refit (λ t u. Is (keyword c) t × IsBehind (slots_of c) u) CommandFits bytes h (record { of = c; word = h.fits.0; behind = h.fits.1 })
+
+cases_of : (bytes : List ℕ) (c : Option Command) → Told bytes c → (IsSpaces bytes ⊎ IsComment bytes) ⊎ IsCommandText bytes
+cases_of bytes None h = inl h
+cases_of bytes (Some c) h = inr (command_text bytes c h)
+
+-- a line is spaces, a comment or a command
+line_cases : (line : Line) (bytes : List ℕ) → IsLine bytes line → (IsSpaces bytes ⊎ IsComment bytes) ⊎ IsCommandText bytes
+line_cases line bytes h = cases_of bytes (command_for line) (told line bytes h)
+
+-- the first token of a line that is neither spaces nor a comment is the word of a command
+pub first_command : (bytes : List ℕ) (at : ℕ) (token rest : List ℕ) (line : Line) → IsUnmarked bytes → IsFirstToken bytes at token rest → IsLine bytes line → CommandFits token rest
+first_command bytes at token rest line unmarked h is_line = elim (line_cases line bytes is_line) [
+  | inl none ↦ (elim none [
+    | inl spaces ↦ absurd (not_spaces bytes (take at bytes) (token ++ rest) spaces h.is (begins token rest h.is_token))
+    | inr comment ↦ absurd (unmarked comment.text comment.marked)
+  ])
+  | inr s ↦ first_fits CommandFits bytes at token rest command_tokens h s
+]
+
+-- what stands behind the word of a known command
+pub behind_word : (c : Command) (token rest : List ℕ) → token ≡ keyword c → CommandFits token rest → IsBehind (slots_of c) rest
+behind_word c token rest e h = subst (λ d. IsBehind (slots_of d) rest) (same_command h.of c (sym h.word ∙ e)) h.behind
+
+-- a mark begins no token that is a space
+mark_begins : (text : List ℕ) → BeginsToken (35 ∷ text)
+mark_begins text = λ e. absurd (omega arith)
+
+same_mark : (a b text y : List ℕ) → IsSpaces a → IsSpaces b → BeginsToken y → a ++ 35 ∷ text ≡ b ++ y → 35 ∷ text ≡ y
+same_mark a b text y p q f e = strip a b (35 ∷ text) y p q (mark_begins text) f e
+
+-- no comment begins as a command does
+pub unmarked_command : (bytes : List ℕ) → IsCommandText bytes → IsUnmarked bytes
+unmarked_command bytes s = λ text m.
+    no_mark s.fits.of s.rest text
+    (sym (same_mark m.before s.before text (keyword s.fits.of ++ s.rest) m.spaces s.spaces (begins (keyword s.fits.of) s.rest (keyword_token s.fits.of)) (sym m.is ∙ s.is ∙ ap (λ t. s.before ++ (t ++ s.rest)) s.fits.word)))
+
+-- behind a mark a line has no line feed
+pub behind_mark_of : (bytes text : List ℕ) (line : Line) → IsMarked bytes text → IsLine bytes line → All (λ b. b ≢ 10) text
+behind_mark_of bytes text line m is_line = elim (line_cases line bytes is_line) [
+  | inl none ↦ (elim none [
+    | inl spaces ↦ absurd (not_spaces bytes m.before (35 ∷ text) spaces m.is (mark_begins text))
+    | inr comment ↦ same_text text comment.text (same_mark m.before comment.marked.before text (35 ∷ comment.text) m.spaces comment.marked.spaces (mark_begins comment.text) (sym m.is ∙ comment.marked.is)) comment.one_line
+  ])
+  | inr s ↦ absurd (unmarked_command bytes s text m)
+]
+  where
+    same_text : (text other : List ℕ) → 35 ∷ text ≡ 35 ∷ other → All (λ b. b ≢ 10) other → All (λ b. b ≢ 10) text
+    same_text text other e h = let tail : other ≡ text = cc in subst (λ t. All (λ b. b ≢ 10) t) tail h
+
+begins_rest : (bytes : List ℕ) (at : ℕ) → IsSpan (λ b. b ≡ 32) bytes at → at < length bytes → BeginsToken (drop at bytes)
+begins_rest bytes at h more = subst BeginsToken (sym (drop_more bytes at 0 more)) (h.stops more)
+
+-- what a test for a mark behind the first spaces says
+pub mark_test : (bytes tail : List ℕ) (at : ℕ) (r : Option (Bor (List ℕ))) → IsSpan (λ b. b ≡ 32) bytes at → tail ≡ drop at bytes
+    → MatchOption r ((rest : List ℕ) → tail ≢ codes "#" ++ rest) (λ rest. tail ≡ codes "#" ++ rest.now) → MatchOption r ((text : List ℕ) → ¬ IsMarked bytes text) (λ text. IsMarked bytes text.now)
+mark_test bytes tail at (Some text) h is t = record {
+  before = take at bytes;
+  spaces = h.passes;
+  is = sym (take-append-drop at bytes) ∙ ap (λ u. take at bytes ++ u) (sym is ∙ t);
+}
+mark_test bytes tail at None h is t = λ text m. elim (cases_lt at (length bytes)) [
+  | inl more ↦ t text (is ∙ strip (take at bytes) m.before (drop at bytes) (35 ∷ text) h.passes m.spaces (begins_rest bytes at h more) (mark_begins text) (take-append-drop at bytes ∙ m.is))
+  | inr none ↦ not_spaces bytes m.before (35 ∷ text) (subst IsSpaces (take_all at bytes none) h.passes) m.is (mark_begins text)
+]
+
+-- a span over all bytes
+pub span_all : (P : ℕ → Type 0) (bytes : List ℕ) (k : ℕ) → IsSpan P bytes k → length bytes ≤ k → All P bytes
+span_all P bytes k h all = subst (λ t. All P t) (take_all k bytes all) h.passes
+
+-- the longest front of a line that begins with a comment
+pub longest_comment : (bytes text : List ℕ) (k : ℕ) → IsMarked bytes text → IsSpan (λ b. b ≢ 10) text k → IsLongestFront IsLineText bytes (length bytes - length text + k)
+longest_comment bytes text k m h =
+    let pre : List ℕ = m.before ++ 35 ∷ [] in
+    let whole : pre ++ text ≡ bytes = append_assoc m.before (35 ∷ []) text ∙ sym m.is in
+    let len : length pre + length text ≡ length bytes = sym (length-append pre text) ∙ ap (λ (t : List ℕ). length t) whole in
+    moved IsLineText bytes (pre ++ text) (length bytes - length text + k) (length pre + k) whole (omega arith)
+    (longest_behind IsLineText (λ t. All (λ b. b ≢ 10) t) pre text k
+    (λ f. record { rest = f.rest; text = (Blank, inr (record { text = take k text ++ f.rest; marked = marked m.before m.spaces (take k text) f.rest; one_line = f.text })) })
+    (λ i low high f. record { rest = f.rest; text = behind_mark_of ((pre ++ take i text) ++ f.rest) (take i text ++ f.rest) f.text.0 (marked m.before m.spaces (take i text) f.rest) f.text.1 })
+    (longest_span (λ b. b ≢ 10) text k h))
+  where
+    marked : (before : List ℕ) → IsSpaces before → (x rest : List ℕ) → IsMarked (((before ++ 35 ∷ []) ++ x) ++ rest) (x ++ rest)
+    marked before spaces x rest = record { before = before; spaces = spaces; is = append_assoc (before ++ 35 ∷ []) x rest ∙ append_assoc before (35 ∷ []) (x ++ rest) }
+
+-- a front of a comment is spaces, or has its mark
+mark_within : (a r b t : List ℕ) → AllByRecursion (λ c. c ≡ 32) b → a ++ r ≡ b ++ 35 ∷ t → AllByRecursion (λ c. c ≡ 32) a ⊎ ((e : List ℕ) × (a ≡ b ++ 35 ∷ e))
+mark_within [] r b t h e = inl tt
+mark_within (z ∷ a) r [] t h e = let head : z ≡ 35 = cc in inr (a, cc)
+mark_within (z ∷ a) r (y ∷ b) t h e =
+    let head : z ≡ y = cc in
+    let tail : a ++ r ≡ b ++ 35 ∷ t = cc in
+    elim (mark_within a r b t h.1 tail) [
+      | inl spaces ↦ inl (head ∙ h.0, spaces)
+      | inr found ↦ inr (found.0, (let rest = found.1 in cc))
+    ]
+
+spaces_left : (a r : List ℕ) → IsSpaces (a ++ r) → IsSpaces a
+spaces_left a r h = subst IsSpaces (take_at a r (length a) refl) (All-take (λ b. b ≡ 32) (length a) (a ++ r) h)
+
+-- a front of some line is one of a command, where no comment begins
+command_front : (a d : List ℕ) → IsUnmarked (a ++ d) → IsFront IsLineText a → IsFront IsCommandText a
+command_front a d unmarked f = elim (line_cases f.text.0 (a ++ f.rest) f.text.1) [
+  | inl none ↦ (elim none [
+    | inl spaces ↦ blank a (spaces_left a f.rest spaces)
+    | inr comment ↦ (elim (mark_within a f.rest comment.marked.before comment.text (recursion_from_All (λ b. b ≡ 32) comment.marked.before comment.marked.spaces) comment.marked.is) [
+      | inl spaces ↦ blank a (All-from_recursion (λ b. b ≡ 32) a spaces)
+      | inr found ↦ absurd (unmarked (found.0 ++ d) (record {
+        before = comment.marked.before;
+        spaces = comment.marked.spaces;
+        is = ap (λ t. t ++ d) found.1 ∙ append_assoc comment.marked.before (35 ∷ found.0) d;
+      }))
+    ])
+  ])
+  | inr s ↦ record { rest = f.rest; text = s }
+]
+  where
+    blank : (bytes : List ℕ) → IsSpaces bytes → IsFront IsCommandText bytes
+    blank bytes spaces = spaces_front CommandFits bytes (keyword command.Group) command_takes_space (word_fits (keyword command.Group) (command.Group, refl)) spaces
+
+-- without a comment the longest front of a line is that of a command
+pub longest_line : (bytes : List ℕ) (k : ℕ) → IsUnmarked bytes → IsLongestFront IsCommandText bytes k → IsLongestFront IsLineText bytes k
+longest_line bytes k unmarked h = record {
+  within = h.within;
+  front = front_map IsCommandText IsLineText (take k bytes) command_line h.front;
+  longest = λ j l f. h.longest j l (command_front (take j bytes) (drop j bytes) (subst IsUnmarked (sym (take-append-drop j bytes)) unmarked) f);
+}
+
+-- the word is that of no command
+pub longest_in_word : (bytes : List ℕ) (at : ℕ) (token rest : List ℕ) (k : ℕ) → IsUnmarked bytes → IsFirstToken bytes at token rest → ¬ IsKeyword token → IsLongestFront IsKeyword token k → IsLongestFront IsLineText bytes (at + k)
+longest_in_word bytes at token rest k unmarked h none front =
+    longest_line bytes (at + k) unmarked
+    (longest_in_token CommandFits bytes at token rest k command_tokens command_takes_space h (inr (λ f. none (fits_word token f))) (longest_same IsKeyword (Fits CommandFits) token k word_fits fits_word front))
+
+-- the bytes end with the word of a command
+pub longest_to_word : (bytes : List ℕ) (at : ℕ) (token rest : List ℕ) (c : Command) → IsUnmarked bytes → IsFirstToken bytes at token rest → length rest ≡ 0 → token ≡ keyword c → IsLongestFront IsLineText bytes (length bytes)
+longest_to_word bytes at token rest c unmarked h none word =
+    let end : rest ≡ [] = nil_from_length rest none in
+    let fits = word_fits token (c, word) in
+    let whole = longest_whole (Fits CommandFits) token (record { rest = []; text = subst (λ t. Fits CommandFits t) (sym (append-nil token)) fits }) in
+    let len : length bytes ≡ at + length token =
+    ap (λ (t : List ℕ). length t) h.is ∙ length-append (take at bytes) (token ++ rest) ∙ ap (λ n. n + length (token ++ rest)) (length-take-le at bytes h.within) ∙ ap (λ (t : List ℕ). at + length t) (ap (λ t. token ++ t) end ∙ append-nil token) in
+    subst (λ n. IsLongestFront IsLineText bytes n) (sym len)
+    (longest_line bytes (at + length token) unmarked (longest_in_token CommandFits bytes at token rest (length token) command_tokens command_takes_space h (inl end) whole))
+
+-- the longest front goes on behind the word of a command
+pub longest_past_word : (bytes : List ℕ) (at : ℕ) (token rest : List ℕ) (c : Command) (k : ℕ) → IsUnmarked bytes → IsFirstToken bytes at token rest → token ≡ keyword c → IsLongestFront (IsBehind (slots_of c)) rest k
+    → IsLongestFront IsLineText bytes (at + length token + k)
+longest_past_word bytes at token rest c k unmarked h word front =
+    longest_line bytes (at + length token + k) unmarked
+    (longest_past_token CommandFits bytes at token rest k command_tokens command_takes_space h
+    (longest_same (IsBehind (slots_of c)) (CommandFits token) rest k (λ t b. record { of = c; word = word; behind = b }) (λ t f. behind_word c token t word f) front))

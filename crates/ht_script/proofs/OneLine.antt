@@ -1,0 +1,93 @@
+-- Bytes are the text of one line at most.
+use Rattle.std.proofs.Common.{◌≡◌, ◌⊎◌, ℕ, inl, inr, List, Option, Some, None, refl, sym, ap, ◌∙◌, subst}
+use Rattle.std.specs.Prelude.{codes}
+use Rattle.ht_pair.specs.declared.row.Row.{Row}
+use Rattle.ht_text.proofs.Numbers.{same_num}
+use Rattle.ht_text.proofs.RowTexts.{same_rows}
+use Rattle.ht_script.specs.declared.command.Command.{Command}
+use Rattle.ht_script.specs.declared.command.Command.TheVariants as command
+use Rattle.ht_script.specs.declared.line.Line.{Line}
+use Rattle.ht_script.specs.declared.line.Line.TheVariants.{Blank, Group, Reduce, LetRows, Show}
+use Rattle.ht_script.specs.Tokens.{◌▸◌, Is, IsSpaces, IsToken}
+use Rattle.ht_script.specs.Lines.{IsComment, IsNumber, AreRows, IsNamed, IsLine}
+use Rattle.ht_script.specs.Slots.{keyword, slots_of, IsBehind}
+use Rattle.ht_script.proofs.TokenLaws.{at_first, no_token}
+use Rattle.ht_script.proofs.GrammarLaws.{number_token, name_token, equals_token, rows_token}
+use Rattle.ht_script.proofs.CommandLaws.{keyword_token, same_command}
+use Rattle.ht_script.proofs.LineLaws.{CommandFits, IsCommandText, Told, told, command_for, command_tokens, command_text, unmarked_command}
+
+-- one token and one rest that two readings of the bytes agree on
+record AreBoth (T R U S : List ℕ → Type 0) : Type 0 where
+  token : List ℕ
+  rest : List ℕ
+  first : T token
+  second : U token
+  behind_first : R rest
+  behind_second : S rest
+
+both : (T R U S : List ℕ → Type 0) (bytes : List ℕ) → ((t : List ℕ) → T t → IsToken t) → ((t : List ℕ) → U t → IsToken t) → (T ▸ R) bytes → (U ▸ S) bytes → AreBoth T R U S
+both T R U S bytes f g s h =
+    let other = at_first (λ t r. U t × S r) bytes s.before s.token s.rest (λ t r k. g t k.0) s.spaces (f s.token s.fits.0) s.apart s.is h in
+    record { token = s.token; rest = s.rest; first = s.fits.0; second = other.0; behind_first = s.fits.1; behind_second = other.1 }
+
+word_token : (c : Command) (t : List ℕ) → Is (keyword c) t → IsToken t
+word_token c t e = subst IsToken (sym e) (keyword_token c)
+
+not_blank : (bytes : List ℕ) → IsSpaces bytes ⊎ IsComment bytes → ¬ IsCommandText bytes
+not_blank bytes (inl spaces) s = no_token CommandFits bytes command_tokens spaces s
+not_blank bytes (inr comment) s = unmarked_command bytes s comment.text comment.marked
+
+-- bytes have one command at most
+one_command : (bytes : List ℕ) (c d : Option Command) → Told bytes c → Told bytes d → c ≡ d
+one_command bytes None None g h = refl
+one_command bytes None (Some d) g h = absurd (not_blank bytes g (command_text bytes d h))
+one_command bytes (Some c) None g h = absurd (not_blank bytes h (command_text bytes c g))
+one_command bytes (Some c) (Some d) g h =
+    let words = both (Is (keyword c)) (IsBehind (slots_of c)) (Is (keyword d)) (IsBehind (slots_of d)) bytes (word_token c) (word_token d) g h in
+    ap Some (same_command c d (sym words.first ∙ words.second))
+
+-- the rest behind the word of a command
+behind_both : (c : Command) (R S : List ℕ → Type 0) (bytes : List ℕ) → (Is (keyword c) ▸ R) bytes → (Is (keyword c) ▸ S) bytes → AreBoth (Is (keyword c)) R (Is (keyword c)) S
+behind_both c R S bytes g h = both (Is (keyword c)) R (Is (keyword c)) S bytes (word_token c) (word_token c) g h
+
+one_number : (m n : ℕ) (R S : List ℕ → Type 0) (bytes : List ℕ) → (IsNumber m ▸ R) bytes → (IsNumber n ▸ S) bytes → (m ≡ n) × AreBoth (IsNumber m) R (IsNumber n) S
+one_number m n R S bytes g h =
+    let numbers = both (IsNumber m) R (IsNumber n) S bytes (λ t k. number_token t m k) (λ t k. number_token t n k) g h in
+    (same_num numbers.token m n numbers.first numbers.second, numbers)
+
+one_name : (m n : List ℕ) (R S : List ℕ → Type 0) (bytes : List ℕ) → (IsNamed m ▸ R) bytes → (IsNamed n ▸ S) bytes → (m ≡ n) × AreBoth (IsNamed m) R (IsNamed n) S
+one_name m n R S bytes g h =
+    let names = both (IsNamed m) R (IsNamed n) S bytes (λ t k. name_token t k.0) (λ t k. name_token t k.0) g h in
+    (sym names.first.1 ∙ names.second.1, names)
+
+one_rows : (p q : List Row) (bytes : List ℕ) → (AreRows p ▸ IsSpaces) bytes → (AreRows q ▸ IsSpaces) bytes → p ≡ q
+one_rows p q bytes g h =
+    let rows = both (AreRows p) IsSpaces (AreRows q) IsSpaces bytes (λ t k. rows_token t p k) (λ t k. rows_token t q k) g h in
+    same_rows rows.token p q rows.first rows.second
+
+same_line : (bytes : List ℕ) (l m : Line) → command_for l ≡ command_for m → IsLine bytes l → IsLine bytes m → l ≡ m
+same_line bytes Blank Blank e g h = refl
+same_line bytes (Group n r) (Group n' r') e g h =
+    let rest = behind_both command.Group (IsNumber n ▸ IsNumber r ▸ IsSpaces) (IsNumber n' ▸ IsNumber r' ▸ IsSpaces) bytes g h in
+    let first = one_number n n' (IsNumber r ▸ IsSpaces) (IsNumber r' ▸ IsSpaces) rest.rest rest.behind_first rest.behind_second in
+    let second = one_number r r' IsSpaces IsSpaces first.1.rest first.1.behind_first first.1.behind_second in
+    let n_is = first.0 in
+    let r_is = second.0 in
+    cc
+same_line bytes (Reduce p) (Reduce q) e g h =
+    let rest = behind_both command.Reduce (AreRows p ▸ IsSpaces) (AreRows q ▸ IsSpaces) bytes g h in
+    ap Reduce (one_rows p q rest.rest rest.behind_first rest.behind_second)
+same_line bytes (LetRows a p) (LetRows b q) e g h =
+    let rest = behind_both command.Let (IsNamed a ▸ Is (codes "=") ▸ AreRows p ▸ IsSpaces) (IsNamed b ▸ Is (codes "=") ▸ AreRows q ▸ IsSpaces) bytes g h in
+    let names = one_name a b (Is (codes "=") ▸ AreRows p ▸ IsSpaces) (Is (codes "=") ▸ AreRows q ▸ IsSpaces) rest.rest rest.behind_first rest.behind_second in
+    let equals = both (Is (codes "=")) (AreRows p ▸ IsSpaces) (Is (codes "=")) (AreRows q ▸ IsSpaces) names.1.rest equals_token equals_token names.1.behind_first names.1.behind_second in
+    let name_is = names.0 in
+    let rows_are = one_rows p q equals.rest equals.behind_first equals.behind_second in
+    cc
+same_line bytes (Show a) (Show b) e g h =
+    let rest = behind_both command.Show (IsNamed a ▸ IsSpaces) (IsNamed b ▸ IsSpaces) bytes g h in
+    ap Show (one_name a b IsSpaces IsSpaces rest.rest rest.behind_first rest.behind_second).0
+same_line bytes _ _ e g h = absurd cc
+
+pub one_line : (bytes : List ℕ) (l m : Line) → IsLine bytes l → IsLine bytes m → l ≡ m
+one_line bytes l m g h = same_line bytes l m (one_command bytes (command_for l) (command_for m) (told l bytes g) (told m bytes h)) g h

@@ -1,0 +1,6 @@
+pub use Rattle.ht_text.specs.Texts
+pub use Rattle.ht_text.specs.Fronts
+pub mod Tokens
+pub mod Names
+pub mod Lines
+pub mod Slots

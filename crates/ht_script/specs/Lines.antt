@@ -1,0 +1,49 @@
+-- The grammar of a line: which lines there are, each with the value that it has.
+--
+--     IsMarked bytes text    spaces, a `#` and the text behind it
+--     IsComment bytes        spaces, a `#` and anything but a line feed
+--     IsNumber n token       the token is the number n
+--     AreRows rows token     the token is the rows
+--     IsNamed name token     the token is the name
+--     IsLine bytes line      the bytes are the text of the line
+--     IsNoLine bytes         the bytes are the text of no line
+--     IsLineText bytes       the bytes are the text of some line
+use Rattle.std.specs.Prelude.{◌≡◌, ◌≢◌, ◌⊎◌, ℕ, List, ◌∷◌, ◌++◌, All, codes}
+use Rattle.ht_pair.specs.declared.row.Row.{Row}
+use Rattle.ht_text.specs.Texts.{IsNum, IsRows}
+use Rattle.ht_script.specs.declared.line.Line.{Line}
+use Rattle.ht_script.specs.declared.line.Line.TheVariants.{Blank, Group, Reduce, LetRows, Show}
+use Rattle.ht_script.specs.Tokens.{IsSpaces, Is, ◌▸◌}
+use Rattle.ht_script.specs.Names.{IsName}
+
+pub record IsMarked (bytes text : List ℕ) : Type 0 where
+  pub before : List ℕ
+  pub spaces : IsSpaces before
+  pub is : bytes ≡ before ++ 35 ∷ text
+
+pub record IsComment (bytes : List ℕ) : Type 0 where
+  pub text : List ℕ
+  pub marked : IsMarked bytes text
+  pub one_line : All (λ b. b ≢ 10) text
+
+abbrev pub IsNumber : ℕ → List ℕ → Type 0
+IsNumber n token = IsNum token n
+
+abbrev pub AreRows : List Row → List ℕ → Type 0
+AreRows rows token = IsRows token rows
+
+abbrev pub IsNamed : List ℕ → List ℕ → Type 0
+IsNamed name token = IsName token × (token ≡ name)
+
+abbrev pub IsLine : List ℕ → Line → Type 0
+IsLine bytes Blank = IsSpaces bytes ⊎ IsComment bytes
+IsLine bytes (Group n r) = (Is (codes "group") ▸ IsNumber n ▸ IsNumber r ▸ IsSpaces) bytes
+IsLine bytes (Reduce rows) = (Is (codes "reduce") ▸ AreRows rows ▸ IsSpaces) bytes
+IsLine bytes (LetRows name rows) = (Is (codes "let") ▸ IsNamed name ▸ Is (codes "=") ▸ AreRows rows ▸ IsSpaces) bytes
+IsLine bytes (Show name) = (Is (codes "show") ▸ IsNamed name ▸ IsSpaces) bytes
+
+abbrev pub IsNoLine : List ℕ → Type 0
+IsNoLine bytes = (line : Line) → ¬ IsLine bytes line
+
+abbrev pub IsLineText : List ℕ → Type 0
+IsLineText bytes = (line : Line) × IsLine bytes line

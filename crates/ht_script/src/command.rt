@@ -1,0 +1,109 @@
+//! The commands, and what stands behind the word of each.
+ghost use Rattle.std.specs.Prelude.{◌≡◌, ◌≢◌, ◌↔◌, ℕ, IsTrue, MatchOption};
+ghost use Rattle.ht_text.specs.Fronts.{IsLongestFront};
+ghost use Rattle.ht_script.specs.Slots.{keyword, slots_of, IsSlot, IsKeyword};
+
+use crate::name::{is_name, name_front};
+use crate::token::{is_equals, shared_front};
+use ht_text::{is_rows, num_front, read_num, rows_front};
+
+/// The first word of a line that isn't blank.
+#[derive(Clone, Copy, Debug, PartialEq, Eq)]
+pub(crate) enum Command {
+    Group,
+    Reduce,
+    Let,
+    Show,
+}
+
+/// What a token behind the first word is.
+#[derive(Clone, Copy, Debug, PartialEq, Eq)]
+pub(crate) enum Slot {
+    Number,
+    Name,
+    Equals,
+    Rows,
+}
+
+// Every command.
+const COMMANDS: [Command; 4] = [Command::Group, Command::Reduce, Command::Let, Command::Show];
+
+impl Command {
+    // The command's word.
+    fn keyword(self) -> &'static [u8]
+        ensures { result.now ≡ keyword self }
+    {
+        match self {
+            Command::Group => b"group",
+            Command::Reduce => b"reduce",
+            Command::Let => b"let",
+            Command::Show => b"show",
+        }
+    }
+
+    // What stands behind the command's word.
+    pub(crate) fn slots(self) -> &'static [Slot]
+        ensures { result.now ≡ slots_of self }
+    {
+        match self {
+            Command::Group => &[Slot::Number, Slot::Number],
+            Command::Reduce => &[Slot::Rows],
+            Command::Let => &[Slot::Name, Slot::Equals, Slot::Rows],
+            Command::Show => &[Slot::Name],
+        }
+    }
+
+    // The command whose word the token is. One pass over the commands.
+    pub(crate) fn of_keyword(token: &[u8]) -> Option<Command>
+        ensures { MatchOption result (¬ IsKeyword token.now) (λ command. token.now ≡ keyword command) }
+    {
+        for command in COMMANDS {
+            if token == command.keyword() {
+                return Some(command);
+            }
+        }
+        None
+    }
+}
+
+// The length of the longest front of the token that some command's word has. One pass over the
+// commands.
+pub(crate) fn keyword_front(token: &[u8]) -> usize
+    ensures { IsLongestFront IsKeyword token.now result }
+{
+    let mut most = 0;
+    for command in COMMANDS {
+        let front = shared_front(token, command.keyword());
+        if most < front {
+            most = front;
+        }
+    }
+    most
+}
+
+impl Slot {
+    // Whether the token fits the slot. One pass over the token.
+    pub(crate) fn holds(self, token: &[u8]) -> bool
+        ensures { IsTrue result ↔ IsSlot self token.now }
+    {
+        match self {
+            Slot::Number => read_num(token).is_some(),
+            Slot::Name => is_name(token),
+            Slot::Equals => is_equals(token),
+            Slot::Rows => is_rows(token),
+        }
+    }
+
+    // The length of the longest front of the token that some token of the slot has. One pass over
+    // the token.
+    pub(crate) fn front(self, token: &[u8]) -> usize
+        ensures { IsLongestFront (IsSlot self) token.now result }
+    {
+        match self {
+            Slot::Number => num_front(token),
+            Slot::Name => name_front(token),
+            Slot::Equals => shared_front(token, b"="),
+            Slot::Rows => rows_front(token),
+        }
+    }
+}

@@ -1,0 +1,56 @@
+//! The longest front of bytes that some line has.
+ghost use Rattle.ht_text.specs.Fronts.{IsLongestFront};
+ghost use Rattle.ht_script.specs.Lines.{IsLineText};
+ghost use Rattle.ht_script.specs.Slots.{IsBehind, IsUnmarked};
+
+use crate::command::{Command, Slot, keyword_front};
+use crate::token::{behind_mark, count_before, count_spaces, first_token};
+
+// The length of the longest front of the bytes that some line has. At most six passes over them.
+pub(crate) fn line_front(line: &[u8]) -> usize
+    ensures { IsLongestFront IsLineText line.now result }
+{
+    if let Some(text) = behind_mark(line) {
+        return line.len() - text.len() + count_before(text, b'\n');
+    }
+    command_front(line)
+}
+
+// The same for bytes that no comment begins with.
+fn command_front(line: &[u8]) -> usize
+    requires { IsUnmarked line.now }
+    ensures { IsLongestFront IsLineText line.now result }
+{
+    let Some((at, token, rest)) = first_token(line) else {
+        return line.len();
+    };
+    let Some(command) = Command::of_keyword(token) else {
+        return at + keyword_front(token);
+    };
+    if rest.is_empty() {
+        return line.len();
+    }
+    let behind = slots_front(command.slots(), rest);
+    at + token.len() + behind
+}
+
+// The length of the longest front of the bytes that tokens for the slots have. One pass over the
+// bytes, and at most four over each token.
+fn slots_front(slots: &[Slot], bytes: &[u8]) -> usize
+    ensures { IsLongestFront (IsBehind slots.now) bytes.now result }
+{
+    let Some((slot, later)) = slots.split_first() else {
+        return count_spaces(bytes);
+    };
+    let Some((at, token, rest)) = first_token(bytes) else {
+        return bytes.len();
+    };
+    if rest.is_empty() {
+        return at + slot.front(token);
+    }
+    if !slot.holds(token) {
+        return at + slot.front(token);
+    }
+    let behind = slots_front(later, rest);
+    at + token.len() + behind
+}

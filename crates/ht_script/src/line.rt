@@ -1,0 +1,62 @@
+//! Lines.
+ghost use Rattle.std.specs.Prelude.{◌≡◌, ◌+◌, suc, ℕ, IfOk, IsErrOf};
+ghost use Rattle.ht_text.specs.Fronts.{IsLongestFront};
+ghost use Rattle.ht_script.specs.declared.line.LineFault.TheVariants as fault;
+ghost use Rattle.ht_script.specs.Lines.{IsLine, IsNoLine, IsLineText};
+
+use crate::front::line_front;
+use crate::value::read_value;
+use ht_pair::Rows;
+use ht_word::{Name, NoMemory};
+use std::alloc::Global;
+use thiserror::Error;
+
+/// A line of the grammar.
+#[derive(Debug, Drop)]
+pub enum Line {
+    /// Only spaces, or a comment.
+    Blank,
+    /// `group` and the two numbers n and r, each at most 9999.
+    Group { n: u32, r: u32 },
+    /// `reduce` and its rows.
+    Reduce(Rows),
+    /// `let`, a name, `=` and rows.
+    LetRows { name: Name, rows: Rows },
+    /// `show` and a name.
+    Show(Name),
+}
+
+/// Why bytes give no line.
+#[derive(Clone, Copy, Debug, PartialEq, Eq, Error)]
+pub enum LineFault {
+    /// They are the text of no line. The column counts from 1: it is that of the first byte that
+    /// no line has behind the bytes before it, or the one behind the last byte.
+    #[error("syntax fault in column {column}")]
+    Syntax { column: usize },
+    /// No memory was found.
+    #[error("out of memory")]
+    NoMemory,
+}
+
+impl From<NoMemory> for LineFault {
+    ghost from_gives = { λ _ e. e ≡ fault.NoMemory };
+
+    fn from(_: NoMemory) -> Self {
+        LineFault::NoMemory
+    }
+}
+
+/// The line that the bytes are the text of. Any bytes are taken. Linear in the bytes: at most
+/// twelve passes over them; the memory is that of the rows and the name.
+pub fn read_line(alloc: Global, line: &[u8]) -> Result<Line, LineFault>
+    ensures line { IfOk result (IsLine line.now) }
+    ensures syntax { (column : ℕ) → IsErrOf result (LineFault.Syntax column)
+        → IsNoLine line.now × (k : ℕ) × (column ≡ suc k) × IsLongestFront IsLineText line.now k }
+{
+    let Some(value) = read_value(alloc, line)? else {
+        return Err(LineFault::Syntax {
+            column: line_front(line) + 1,
+        });
+    };
+    Ok(value)
+}

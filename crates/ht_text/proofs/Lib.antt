@@ -1,0 +1,10 @@
+pub mod Cuts
+pub mod FrontLaws
+pub mod NumberFronts
+pub mod Numbers
+pub mod PlaceLaws
+pub mod RowFronts
+pub mod RowTexts
+pub mod WordFronts
+pub mod WordTexts
+pub mod Writing

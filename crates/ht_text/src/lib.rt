@@ -1,0 +1,28 @@
+//! Texts of numbers, words and rows: how scripts write them and how answers print them.
+//!
+//! The word of root 1 and letters 2, 1 is `x1.21`, the row that sends it to root 2 is `x1.21>x2`,
+//! and rows are joined by `;`. `read_rows(alloc, b"x1.1>x1.2;x1.2>x1.1")?` reads two rows.
+//!
+//! - `number`: texts of numbers
+//! - `word`: texts of words
+//! - `rows`: texts of rows
+//! - `front`: the longest fronts of texts, which tell where a text is at fault
+//! - `place`: texts of words and rows, byte by byte
+//! - `bytes`: cuts of bytes
+//! - `laws`: no text has two values
+#![tactic(auto)]
+
+mod bytes;
+mod front;
+mod laws;
+mod number;
+mod place;
+mod rows;
+mod word;
+
+pub use bytes::{after, cut};
+pub use front::{is_rows, num_front, rows_front, word_front};
+pub use laws::{number_texts_are_one_number, row_texts_are_one_list, word_texts_are_one_word};
+pub use number::{read_num, write_num, write_size};
+pub use rows::{read_rows, write_rows};
+pub use word::{read_word, write_word};
