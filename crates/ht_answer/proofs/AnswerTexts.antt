@@ -1,10 +1,10 @@
 -- How the texts of answers begin.
-use Rattle.std.proofs.Common.{◌≡◌, ◌≢◌, ◌↔◌, ℕ, List, [], ◌∷◌, ◌++◌, refl, arith}
+use Rattle.std.proofs.Common.{true, false, ◌≡◌, ◌≢◌, ◌↔◌, ℕ, List, [], ◌∷◌, ◌++◌, refl, arith}
 use Rattle.std.specs.Prelude.{codes, decimal}
 use Rattle.ht_pair.specs.declared.row.Row.{Row}
 use Rattle.ht_text.specs.Texts.{rows_text}
 use Rattle.ht_answer.specs.declared.answer.Answer.{Answer}
-use Rattle.ht_answer.specs.declared.answer.Answer.TheVariants.{Blank, Group, Pair, Let, Refused}
+use Rattle.ht_answer.specs.declared.answer.Answer.TheVariants.{Blank, Group, Pair, Let, Equal, Refused}
 use Rattle.ht_answer.specs.declared.answer.Refusal.{Refusal}
 use Rattle.ht_answer.specs.declared.answer.Refusal.TheVariants as refusal
 use Rattle.ht_answer.specs.Answers.{IsRefusal, answer_text}
@@ -42,6 +42,8 @@ begins_refused Blank rest e = no_empty _ _ e
 begins_refused (Group n r) rest e = other_head 103 114 _ _ (λ same. absurd (omega arith)) e
 begins_refused (Pair rows) rest e = rows_begin rows (codes "efused: " ++ rest) e
 begins_refused (Let name rows) rest e = other_head 108 114 _ _ (λ same. absurd (omega arith)) e
+begins_refused (Equal true) rest e = other_head 121 114 _ _ (λ same. absurd (omega arith)) e
+begins_refused (Equal false) rest e = other_head 110 114 _ _ (λ same. absurd (omega arith)) e
 begins_refused (Refused why) rest e = tt
 
 -- `refusal_begins`, of answers
@@ -50,6 +52,7 @@ refusal_text_begins Blank h = absurd h
 refusal_text_begins (Group n r) h = absurd h
 refusal_text_begins (Pair rows) h = absurd h
 refusal_text_begins (Let name rows) h = absurd h
+refusal_text_begins (Equal alike) h = absurd h
 refusal_text_begins (Refused why) h = refusal_begins why
 
 -- the refusals are the answers whose texts begin with `refused: `

@@ -5,9 +5,9 @@
 --     number_line text n    a text, a number and the line feed
 --     refusal_text why      the line of a refusal
 --     answer_text answer    the answer's line, with the line feed; nothing for a blank line
-use Rattle.std.specs.Prelude.{ℕ, List, [], ◌++◌, codes, decimal}
+use Rattle.std.specs.Prelude.{true, false, ℕ, List, [], ◌++◌, codes, decimal}
 use Rattle.ht_answer.specs.declared.answer.Answer.{Answer}
-use Rattle.ht_answer.specs.declared.answer.Answer.TheVariants.{Blank, Group, Pair, Let, Refused}
+use Rattle.ht_answer.specs.declared.answer.Answer.TheVariants.{Blank, Group, Pair, Let, Equal, Refused}
 use Rattle.ht_answer.specs.declared.answer.Refusal.{Refusal}
 use Rattle.ht_answer.specs.declared.answer.Refusal.TheVariants as refusal
 use Rattle.ht_text.specs.Texts.{HasRowsText, rows_text}
@@ -17,6 +17,7 @@ IsRefusal Blank = ⊥
 IsRefusal (Group n r) = ⊥
 IsRefusal (Pair rows) = ⊥
 IsRefusal (Let name rows) = ⊥
+IsRefusal (Equal alike) = ⊥
 IsRefusal (Refused why) = Unit {0}
 
 abbrev pub HasAnswerText : Answer → Type 0
@@ -24,6 +25,7 @@ HasAnswerText Blank = Unit {0}
 HasAnswerText (Group n r) = Unit {0}
 HasAnswerText (Pair rows) = HasRowsText rows
 HasAnswerText (Let name rows) = Unit {0}
+HasAnswerText (Equal alike) = Unit {0}
 HasAnswerText (Refused why) = Unit {0}
 
 abbrev pub number_line : List ℕ → ℕ → List ℕ
@@ -43,4 +45,6 @@ answer_text Blank = []
 answer_text (Group n r) = codes "group " ++ decimal n ++ number_line (codes " ") r
 answer_text (Pair rows) = rows_text rows ++ codes "\n"
 answer_text (Let name rows) = codes "let " ++ name ++ number_line (codes " ") rows
+answer_text (Equal true) = codes "yes\n"
+answer_text (Equal false) = codes "no\n"
 answer_text (Refused why) = refusal_text why

@@ -16,6 +16,8 @@ pub enum Answer {
     Pair(Rows),
     /// To `let`: the name, and the number of rows of its canonical pair.
     Let { name: Name, rows: usize },
+    /// To `equal`: whether the two elements act alike.
+    Equal(bool),
     /// The line changed nothing.
     Refused(Refusal),
 }

@@ -21,6 +21,7 @@ pub fn print(answer: &Answer, out: &mut Vec<u8>) -> Result<(), NoMemory>
         Answer::Group { n, r } => print_group(*n, *r, out),
         Answer::Pair(rows) => print_pair(rows, out),
         Answer::Let { name, rows } => print_let(name, *rows, out),
+        Answer::Equal(alike) => print_equal(*alike, out),
         Answer::Refused(why) => print_refusal(why, out),
     }
 }
@@ -54,6 +55,18 @@ fn print_let(name: &Name, rows: usize, out: &mut Vec<u8>) -> Result<(), NoMemory
     out.extend_from_slice(b"let ")?;
     out.extend_from_slice(name.as_slice())?;
     write_line(b" ", rows, out)
+}
+
+// Appends the answer to `equal`.
+fn print_equal(alike: bool, out: &mut Vec<u8>) -> Result<(), NoMemory>
+    ensures ok { OnOk result (out.new.items ≡ out.old.items ++ answer_text (Answer.Equal alike)) }
+    ensures err { OnErr result (AddsFront out.old.items out.new.items (answer_text (Answer.Equal alike))) }
+{
+    if alike {
+        write_text(b"yes\n", out)
+    } else {
+        write_text(b"no\n", out)
+    }
 }
 
 // Appends the text of a refusal.

@@ -1,5 +1,6 @@
 pub mod CanonicalTexts
 pub mod Ends
+pub mod LineSizes
 pub mod NameLaws
 pub mod Reading
 pub mod Runs

@@ -1,13 +1,16 @@
--- Entries of a map with the rows of their elements.
-use Rattle.std.proofs.Common.{◌≡◌, ℕ, List, [], ◌∷◌, Bool, true, false, refl, ap, ◌∙◌, sym, Option, Some, None, MatchOption, Bor}
+-- Entries of a map: what is bound to names, with the elements and with their rows.
+use Rattle.std.proofs.Common.{◌≡◌, ◌≢◌, ◌<◌, ◌↔◌, ℕ, List, [], ◌∷◌, Bool, true, false, refl, ap, ◌∙◌, sym, subst, inl, inr, Option, Some, None, Result, Ok, Err, OnOk, OnErr, MatchOption, Bor}
 use Rattle.std.specs.Prelude.{nat_eq, if◌then◌else◌}
 use Rattle.std.specs.Option.{option_copied}
 use Rattle.std.specs.Cmp.Lexicographic.{pointwise}
-use Rattle.std.specs.Map.{lookup, set_value}
+use Rattle.std.specs.Map.{set_value}
+use Rattle.std.proofs.lemmas.List.{length-map}
+use Rattle.std.proofs.lemmas.List.Elements.{All-nil, All-cons, All-head, All-tail}
 use Rattle.indexmap.specs.IndexMap.{insert_entry}
+use Rattle.ht_word.specs.declared.shape.Shape.{Shape}
 use Rattle.ht_pair.specs.declared.row.Row.{Row}
 use Rattle.ht_pair.specs.Elements.{ElementValue}
-use Rattle.ht_calc.specs.Names.{rows_by_name, bound, bind}
+use Rattle.ht_calc.specs.Names.{rows_by_name, AreOfShape, bound, bind, HasRoom}
 
 -- the rows of an element, if there is one
 abbrev pub rows_of : Option ElementValue → Option (List Row)
@@ -19,44 +22,95 @@ bound_at : (b : Bool) (element : ElementValue) (rest : Option (List Row)) (found
 bound_at true element rest found e = refl
 bound_at false element rest found e = e
 
--- what is bound to a name is the rows of its element
-pub bound_is : (entries : List (List ℕ × ElementValue)) (name : List ℕ) → bound (rows_by_name entries) name ≡ rows_of (lookup (pointwise nat_eq name) entries)
-bound_is [] name = refl
-bound_is (entry ∷ entries) name = bound_at (pointwise nat_eq name entry.0) entry.1 (bound (rows_by_name entries) name) (lookup (pointwise nat_eq name) entries) (bound_is entries name)
+-- the rows that are bound to a name are those of its element
+pub bound_rows : (entries : List (List ℕ × ElementValue)) (name : List ℕ) → bound (rows_by_name entries) name ≡ rows_of (bound entries name)
+bound_rows [] name = refl
+bound_rows (entry ∷ entries) name = bound_at (pointwise nat_eq name entry.0) entry.1 (bound (rows_by_name entries) name) (bound entries name) (bound_rows entries name)
 
--- a look-up finds the element whose rows are bound
-pub bound_found : (names : Option (List Row)) (looked : Option ElementValue) (found : Option (Bor ElementValue)) → names ≡ rows_of looked → option_copied found ≡ looked
-    → MatchOption found (names ≡ None) (λ element. names ≡ Some (element.now.rows))
-bound_found names looked None is e = is ∙ ap rows_of (sym e)
-bound_found names looked (Some element) is e = is ∙ ap rows_of (sym e)
+-- a look-up finds the element that is bound
+pub bound_found : (looked : Option ElementValue) (found : Option (Bor ElementValue)) → option_copied found ≡ looked → MatchOption found (looked ≡ None) (λ element. looked ≡ Some (element.now))
+bound_found looked None e = sym e
+bound_found looked (Some element) e = sym e
 
--- where the look-up finds nothing, nothing is bound
-pub unbound : (entries : List (List ℕ × ElementValue)) (name : List ℕ) → lookup (pointwise nat_eq name) entries ≡ None → bound (rows_by_name entries) name ≡ None
-unbound entries name e = bound_is entries name ∙ ap rows_of e
-
-inserted_at : (b : Bool) (entry : List ℕ × ElementValue) (entries others : List (List ℕ × ElementValue)) (name : List ℕ) (element : ElementValue)
-    → rows_by_name others ≡ bind (rows_by_name entries) name element.rows
-    → rows_by_name (if b then (entry.0, element) ∷ entries else entry ∷ others)
-    ≡ (if b then (entry.0, element.rows) ∷ rows_by_name entries else (entry.0, entry.1.rows) ∷ bind (rows_by_name entries) name element.rows)
-inserted_at true entry entries others name element e = refl
-inserted_at false entry entries others name element e = ap (λ names. (entry.0, entry.1.rows) ∷ names) e
+inserted_at : (b : Bool) (entry : List ℕ × ElementValue) (entries others more : List (List ℕ × ElementValue)) (element : ElementValue) → others ≡ more
+    → (if b then (entry.0, element) ∷ entries else entry ∷ others) ≡ (if b then (entry.0, element) ∷ entries else entry ∷ more)
+inserted_at true entry entries others more element e = refl
+inserted_at false entry entries others more element e = ap (λ names. entry ∷ names) e
 
 -- an entry that is inserted binds its name
-pub inserted : (entries : List (List ℕ × ElementValue)) (name : List ℕ) (element : ElementValue)
-    → rows_by_name (insert_entry (pointwise nat_eq) entries name element) ≡ bind (rows_by_name entries) name element.rows
+pub inserted : (entries : List (List ℕ × ElementValue)) (name : List ℕ) (element : ElementValue) → insert_entry (pointwise nat_eq) entries name element ≡ bind entries name element
 inserted [] name element = refl
-inserted (entry ∷ entries) name element = inserted_at (pointwise nat_eq name entry.0) entry entries (insert_entry (pointwise nat_eq) entries name element) name element (inserted entries name element)
+inserted (entry ∷ entries) name element = inserted_at (pointwise nat_eq name entry.0) entry entries (insert_entry (pointwise nat_eq) entries name element) (bind entries name element) element (inserted entries name element)
 
-written_at : (b : Bool) (entry : List ℕ × ElementValue) (entries : List (List ℕ × ElementValue)) (name : List ℕ) (element old : ElementValue)
-    → (if b then Some entry.1 else lookup (pointwise nat_eq name) entries) ≡ Some old
-    → (lookup (pointwise nat_eq name) entries ≡ Some old → rows_by_name (set_value (pointwise nat_eq name) entries element) ≡ bind (rows_by_name entries) name element.rows)
-    → rows_by_name (if b then (entry.0, element) ∷ entries else entry ∷ set_value (pointwise nat_eq name) entries element)
-    ≡ (if b then (entry.0, element.rows) ∷ rows_by_name entries else (entry.0, entry.1.rows) ∷ bind (rows_by_name entries) name element.rows)
-written_at true entry entries name element old found rest = refl
-written_at false entry entries name element old found rest = ap (λ names. (entry.0, entry.1.rows) ∷ names) (rest found)
+written_at : (b : Bool) (entry : List ℕ × ElementValue) (entries others more : List (List ℕ × ElementValue)) (found : Option ElementValue) (element old : ElementValue)
+    → (if b then Some entry.1 else found) ≡ Some old → (found ≡ Some old → others ≡ more)
+    → (if b then (entry.0, element) ∷ entries else entry ∷ others) ≡ (if b then (entry.0, element) ∷ entries else entry ∷ more)
+written_at true entry entries others more found element old is rest = refl
+written_at false entry entries others more found element old is rest = ap (λ names. entry ∷ names) (rest is)
 
 -- a name that is bound gets its new element where it stands
-pub written : (entries : List (List ℕ × ElementValue)) (name : List ℕ) (element old : ElementValue) → lookup (pointwise nat_eq name) entries ≡ Some old
-    → rows_by_name (set_value (pointwise nat_eq name) entries element) ≡ bind (rows_by_name entries) name element.rows
+pub written : (entries : List (List ℕ × ElementValue)) (name : List ℕ) (element old : ElementValue) → bound entries name ≡ Some old → set_value (pointwise nat_eq name) entries element ≡ bind entries name element
 written [] name element old found = cc
-written (entry ∷ entries) name element old found = written_at (pointwise nat_eq name entry.0) entry entries name element old found (written entries name element old)
+written (entry ∷ entries) name element old found =
+    written_at (pointwise nat_eq name entry.0) entry entries (set_value (pointwise nat_eq name) entries element) (bind entries name element) (bound entries name) element old found (written entries name element old)
+
+bind_rows_at : (b : Bool) (entry : List ℕ × ElementValue) (entries others : List (List ℕ × ElementValue)) (more : List (List ℕ × List Row)) (element : ElementValue) → rows_by_name others ≡ more
+    → rows_by_name (if b then (entry.0, element) ∷ entries else entry ∷ others) ≡ (if b then (entry.0, element.rows) ∷ rows_by_name entries else (entry.0, entry.1.rows) ∷ more)
+bind_rows_at true entry entries others more element e = refl
+bind_rows_at false entry entries others more element e = ap (λ names. (entry.0, entry.1.rows) ∷ names) e
+
+-- where an element is bound, its rows are
+pub bind_rows : (entries : List (List ℕ × ElementValue)) (name : List ℕ) (element : ElementValue) → rows_by_name (bind entries name element) ≡ bind (rows_by_name entries) name element.rows
+bind_rows [] name element = refl
+bind_rows (entry ∷ entries) name element = bind_rows_at (pointwise nat_eq name entry.0) entry entries (bind entries name element) (bind (rows_by_name entries) name element.rows) element (bind_rows entries name element)
+
+bound_somewhere : (found : Option ElementValue) → (rows_of found ≢ None) ↔ (found ≢ None)
+bound_somewhere None = ((λ some e. some refl), (λ some e. some refl))
+bound_somewhere (Some element) = ((λ some e. cc), (λ some e. cc))
+
+-- there is as much room by the elements as by their rows
+pub same_room : (entries : List (List ℕ × ElementValue)) (name : List ℕ) → HasRoom (rows_by_name entries) name ↔ HasRoom entries name
+same_room entries name = (
+  (λ room. elim room [
+    | inl some ↦ inl ((bound_somewhere (bound entries name)).0 (subst (λ (t : Option (List Row)). t ≢ None) (bound_rows entries name) some))
+    | inr few ↦ inr (subst (λ k. k < 256) (length-map entries (λ (entry : List ℕ × ElementValue). (entry.0, entry.1.rows))) few)
+  ]),
+  (λ room. elim room [
+    | inl some ↦ inl (subst (λ (t : Option (List Row)). t ≢ None) (sym (bound_rows entries name)) ((bound_somewhere (bound entries name)).1 some))
+    | inr few ↦ inr (subst (λ k. k < 256) (sym (length-map entries (λ (entry : List ℕ × ElementValue). (entry.0, entry.1.rows)))) few)
+  ]),
+)
+
+-- ---- shapes
+
+-- an entry's element is of the shape
+abbrev IsOfShape : Option Shape → List ℕ × ElementValue → Type 0
+IsOfShape shape entry = Some (entry.1.shape) ≡ shape
+
+found_at : (shape : Option Shape) (b : Bool) (entry : List ℕ × ElementValue) (rest : Option ElementValue) (element : ElementValue) → IsOfShape shape entry → (rest ≡ Some element → Some (element.shape) ≡ shape)
+    → (if b then Some entry.1 else rest) ≡ Some element → Some (element.shape) ≡ shape
+found_at shape true entry rest element is other e = let same : entry.1 ≡ element = cc in ap (λ (t : ElementValue). Some (t.shape)) (sym same) ∙ is
+found_at shape false entry rest element is other e = other e
+
+-- the element that is bound to a name is of the shape
+pub bound_of_shape : (shape : Option Shape) (entries : List (List ℕ × ElementValue)) (name : List ℕ) (element : ElementValue) → AreOfShape shape entries → bound entries name ≡ Some element → Some (element.shape) ≡ shape
+bound_of_shape shape [] name element h e = cc
+bound_of_shape shape (entry ∷ entries) name element h e =
+    found_at shape (pointwise nat_eq name entry.0) entry (bound entries name) element (All-head (IsOfShape shape) entry entries h) (bound_of_shape shape entries name element (All-tail (IsOfShape shape) entry entries h)) e
+
+bind_at : (shape : Option Shape) (b : Bool) (entry : List ℕ × ElementValue) (entries others : List (List ℕ × ElementValue)) (element : ElementValue) → AreOfShape shape (entry ∷ entries) → Some (element.shape) ≡ shape → AreOfShape shape others
+    → AreOfShape shape (if b then (entry.0, element) ∷ entries else entry ∷ others)
+bind_at shape true entry entries others element h is rest = All-cons (IsOfShape shape) (entry.0, element) entries is (All-tail (IsOfShape shape) entry entries h)
+bind_at shape false entry entries others element h is rest = All-cons (IsOfShape shape) entry others (All-head (IsOfShape shape) entry entries h) rest
+
+-- with one more element of the shape all are of it
+bind_of_shape : (shape : Option Shape) (entries : List (List ℕ × ElementValue)) (name : List ℕ) (element : ElementValue) → AreOfShape shape entries → Some (element.shape) ≡ shape → AreOfShape shape (bind entries name element)
+bind_of_shape shape [] name element h is = All-cons (IsOfShape shape) (name, element) [] is (All-nil (IsOfShape shape))
+bind_of_shape shape (entry ∷ entries) name element h is =
+    bind_at shape (pointwise nat_eq name entry.0) entry entries (bind entries name element) element h is (bind_of_shape shape entries name element (All-tail (IsOfShape shape) entry entries h) is)
+
+-- and where it found no memory they still are
+pub still_of_shape : {T E : Type 0} (shape : Option Shape) (old new : List (List ℕ × ElementValue)) (name : List ℕ) (element : ElementValue) (result : Result T E) → AreOfShape shape old → Some (element.shape) ≡ shape
+    → OnOk result (new ≡ bind old name element) → OnErr result (new ≡ old) → AreOfShape shape new
+still_of_shape shape old new name element (Ok x) h is ok err = subst (AreOfShape shape) (sym ok) (bind_of_shape shape old name element h is)
+still_of_shape shape old new name element (Err e) h is ok err = subst (AreOfShape shape) (sym err) h

@@ -14,7 +14,7 @@ use Rattle.ht_answer.specs.declared.answer.Refusal.TheVariants as refusal
 use Rattle.ht_answer.specs.Answers.{IsRefusal}
 use Rattle.ht_calc.specs.Names.{bind, HasRoom}
 use Rattle.ht_calc.specs.States.{State}
-use Rattle.ht_calc.specs.Steps.{Does, Step, blank, group_is_set, group_refused, before_group, reduced, reduce_refused, let_bound, let_no_room, let_refused, shown, show_unbound, no_line}
+use Rattle.ht_calc.specs.Steps.{Does, Step, blank, group_is_set, group_refused, before_group, reduced, reduce_refused, let_bound, let_no_room, let_refused, shown, show_unbound, compared, first_unbound, second_unbound, no_line}
 
 -- a line that is refused changes nothing
 pub refused_keeps : (old : State) (line : Line) (answer : Answer) (new : State) → Does old line answer new → IsRefusal answer → new ≡ old
@@ -29,6 +29,9 @@ refused_keeps old _ _ _ (let_no_room name rows some full) is = refl
 refused_keeps old _ _ _ (let_refused name rows shape why some room says) is = refl
 refused_keeps old _ _ _ (shown name rows some found) is = refl
 refused_keeps old _ _ _ (show_unbound name some none) is = refl
+refused_keeps old _ _ _ (compared first second p q shape alike some first_is second_is told) is = absurd is
+refused_keeps old _ _ _ (first_unbound first second some none) is = refl
+refused_keeps old _ _ _ (second_unbound first second p some first_is none) is = refl
 
 -- bytes that are no line are refused with the column behind their longest front
 pub syntax_refused : (old : State) (bytes : List ℕ) (column said : ℕ) → said ≡ column → IsNoLine bytes × (k : ℕ) × (column ≡ suc k) × IsLongestFront IsLineText bytes k

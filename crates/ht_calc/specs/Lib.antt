@@ -7,4 +7,5 @@ pub mod States
 pub mod Steps
 pub mod Runs
 pub mod Statuses
+pub mod ShortLines
 pub mod Tables

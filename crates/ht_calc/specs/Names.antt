@@ -1,24 +1,30 @@
--- What is bound to names: canonical pairs, the name that was bound first at the front.
+-- What is bound to names: elements or their canonical pairs, the name that was bound first at the
+-- front.
 --
 --     rows_by_name entries      the names of entries, each with the rows of its element
---     bound names name          the rows of the first entry of this name
---     bind names name rows      the rows in the place of the name where it is bound, else behind all others
+--     AreOfShape shape entries  the elements of the entries are of the shape; without a shape there are none
+--     bound names name          what the first entry of this name has
+--     bind names name what      what a name is bound to, in the place of the name where it is bound, else behind all others
 --     HasRoom names name        the name is bound, or fewer than 256 names are
-use Rattle.std.specs.Prelude.{◌≢◌, ◌⊎◌, ◌<◌, ℕ, List, [], ◌∷◌, length, map, Option, None, if◌then◌else◌, nat_eq}
+use Rattle.std.specs.Prelude.{◌≡◌, ◌≢◌, ◌⊎◌, ◌<◌, ℕ, List, [], ◌∷◌, length, map, All, Option, Some, None, if◌then◌else◌, nat_eq}
 use Rattle.std.specs.Cmp.Lexicographic.{pointwise}
 use Rattle.std.specs.Map.{lookup}
+use Rattle.ht_word.specs.declared.shape.Shape.{Shape}
 use Rattle.ht_pair.specs.declared.row.Row.{Row}
 use Rattle.ht_pair.specs.Elements.{ElementValue}
 
 abbrev pub rows_by_name : List (List ℕ × ElementValue) → List (List ℕ × List Row)
 rows_by_name entries = map (λ entry. (entry.0, entry.1.rows)) entries
 
-abbrev pub bound : List (List ℕ × List Row) → List ℕ → Option (List Row)
+abbrev pub AreOfShape : Option Shape → List (List ℕ × ElementValue) → Type 0
+AreOfShape shape entries = All (λ entry. Some (entry.1.shape) ≡ shape) entries
+
+abbrev pub bound : {T : Type 0} → List (List ℕ × T) → List ℕ → Option T
 bound names name = lookup (pointwise nat_eq name) names
 
-abbrev pub bind : List (List ℕ × List Row) → List ℕ → List Row → List (List ℕ × List Row)
-bind [] name rows = (name, rows) ∷ []
-bind (entry ∷ names) name rows = if pointwise nat_eq name entry.0 then (entry.0, rows) ∷ names else entry ∷ bind names name rows
+abbrev pub bind : {T : Type 0} → List (List ℕ × T) → List ℕ → T → List (List ℕ × T)
+bind [] name what = (name, what) ∷ []
+bind (entry ∷ names) name what = if pointwise nat_eq name entry.0 then (entry.0, what) ∷ names else entry ∷ bind names name what
 
-abbrev pub HasRoom : List (List ℕ × List Row) → List ℕ → Type 0
+abbrev pub HasRoom : {T : Type 0} → List (List ℕ × T) → List ℕ → Type 0
 HasRoom names name = (bound names name ≢ None) ⊎ (length names < 256)

@@ -5,19 +5,19 @@
 --     IsRowsRefusal shape rows why       the refusal says why the rows are no element
 --     Does old line answer new           from the state old this line gets this answer and leads to new
 --     Step old bytes answer new          the same for the bytes of a line, which may be no line
-use Rattle.std.specs.Prelude.{◌≡◌, ◌⊎◌, ℕ, suc, List, length, Some, None, IsSome, ⊤}
+use Rattle.std.specs.Prelude.{◌≡◌, ◌⊎◌, ◌↔◌, ℕ, suc, List, length, Bool, IsTrue, Some, None, IsSome, ⊤}
 use Rattle.ht_word.specs.declared.shape.Shape.{Shape}
 use Rattle.ht_word.specs.Shapes.{IsShape}
 use Rattle.ht_pair.specs.declared.row.Row.{Row}
 use Rattle.ht_pair.specs.Pairs.{IsPair}
-use Rattle.ht_pair.specs.Actions.{IsCanonicalFor}
+use Rattle.ht_pair.specs.Actions.{Alike, IsCanonicalFor}
 use Rattle.ht_pair.specs.RowsFaults.{IsFirstForeign, IsFromFault, IsToFault}
 use Rattle.ht_text.specs.Fronts.{IsLongestFront}
 use Rattle.ht_script.specs.declared.line.Line.{Line}
 use Rattle.ht_script.specs.declared.line.Line.TheVariants as line
 use Rattle.ht_script.specs.Lines.{IsLine, IsNoLine, IsLineText}
 use Rattle.ht_answer.specs.declared.answer.Answer.{Answer}
-use Rattle.ht_answer.specs.declared.answer.Answer.TheVariants.{Blank, Group, Pair, Let, Refused}
+use Rattle.ht_answer.specs.declared.answer.Answer.TheVariants.{Blank, Group, Pair, Let, Equal, Refused}
 use Rattle.ht_answer.specs.declared.answer.Refusal.{Refusal}
 use Rattle.ht_answer.specs.declared.answer.Refusal.TheVariants as refusal
 use Rattle.ht_calc.specs.Names.{bound, bind, HasRoom}
@@ -29,6 +29,7 @@ NeedsGroup (line.Group n r) = ⊥
 NeedsGroup (line.Reduce rows) = ⊤
 NeedsGroup (line.LetRows name rows) = ⊤
 NeedsGroup (line.Show name) = ⊤
+NeedsGroup (line.Equal first second) = ⊤
 
 abbrev pub IsRowsRefusal : Shape → List Row → Refusal → Type 0
 IsRowsRefusal shape rows (refusal.Syntax column) = ⊥
@@ -53,6 +54,10 @@ pub data Does (old : State) : Line → Answer → State → Type 0 where
       → Does old (line.LetRows name rows) (Refused why) old
   shown : (name : List ℕ) (rows : List Row) → IsSome old.shape → bound old.names name ≡ Some rows → Does old (line.Show name) (Pair rows) old
   show_unbound : (name : List ℕ) → IsSome old.shape → bound old.names name ≡ None → Does old (line.Show name) (Refused (refusal.Name name)) old
+  compared : (first second : List ℕ) (p q : List Row) (shape : Shape) (alike : Bool) → old.shape ≡ Some shape → bound old.names first ≡ Some p → bound old.names second ≡ Some q → IsTrue alike ↔ Alike shape p q
+      → Does old (line.Equal first second) (Equal alike) old
+  first_unbound : (first second : List ℕ) → IsSome old.shape → bound old.names first ≡ None → Does old (line.Equal first second) (Refused (refusal.Name first)) old
+  second_unbound : (first second : List ℕ) (p : List Row) → IsSome old.shape → bound old.names first ≡ Some p → bound old.names second ≡ None → Does old (line.Equal first second) (Refused (refusal.Name second)) old
 
 -- bytes that are no line are refused with the column behind their longest front that some line has
 pub data Step (old : State) (bytes : List ℕ) : Answer → State → Type 0 where

@@ -12,7 +12,7 @@ use std::marker::Model;
 const MAX_NAMES: usize = 256;
 
 /// Names and the elements bound to them, in the order in which the names were first bound. Seen by
-/// contracts as the list of the names and the rows of the elements.
+/// contracts as the list of the names and the elements.
 #[derive(Drop)]
 pub(crate) struct Bindings {
     elements: IndexMap<Name, Element>,
@@ -20,12 +20,11 @@ pub(crate) struct Bindings {
 
 impl Model for Bindings {
     ghost use Rattle.std.specs.Prelude.{List, ℕ};
-    ghost use Rattle.ht_pair.specs.declared.row.Row.{Row};
-    ghost use Rattle.ht_calc.specs.Names.{rows_by_name};
+    ghost use Rattle.ht_pair.specs.Elements.{ElementValue};
 
-    ghost Value = { List (List ℕ × List Row) };
+    ghost Value = { List (List ℕ × ElementValue) };
 
-    ghost view = { λ bindings. rows_by_name bindings.elements.entries };
+    ghost view = { λ bindings. bindings.elements.entries };
 }
 
 impl Bindings {
@@ -47,7 +46,7 @@ impl Bindings {
 
     // The element that is bound to a name. Constant time but for the bytes of the name.
     pub(crate) fn get(&self, name: &Name) -> Option<&Element>
-        ensures { MatchOption result (bound self.now name.now ≡ None) (λ element. bound self.now name.now ≡ Some (element.now.rows)) }
+        ensures { MatchOption result (bound self.now name.now ≡ None) (λ element. bound self.now name.now ≡ Some (element.now)) }
     {
         self.elements.get(name)
     }
@@ -62,7 +61,7 @@ impl Bindings {
     // Binds a name. One that is bound keeps its place, and takes no memory. After the refusal the
     // bindings are unchanged.
     pub(crate) fn bind(&mut self, name: Name, element: Element) -> Result<(), NoMemory>
-        ensures ok { OnOk result (self.new ≡ bind self.old name element.rows) }
+        ensures ok { OnOk result (self.new ≡ bind self.old name element) }
         ensures err { OnErr result (self.new ≡ self.old) }
         ensures there { bound self.old name ≢ None → IsOk result }
     {

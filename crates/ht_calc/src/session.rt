@@ -2,9 +2,12 @@
 ghost use Rattle.std.specs.Prelude.{◌≡◌, ◌≢◌, ◌≤◌, All, List, ℕ, length, IfOk, OnErr};
 ghost use Rattle.ht_word.specs.declared.shape.Shape.{Shape};
 ghost use Rattle.ht_pair.specs.declared.row.Row.{Row};
+ghost use Rattle.ht_pair.specs.declared.fault.RowsFault.TheVariants.{Large};
 ghost use Rattle.ht_pair.specs.RowsFaults.{IsRowsFault};
+ghost use Rattle.ht_text.specs.Texts.{rows_text};
 ghost use Rattle.ht_script.specs.declared.line.Line.TheVariants as line;
 ghost use Rattle.ht_answer.specs.Answers.{IsRefusal, HasAnswerText};
+ghost use Rattle.ht_calc.specs.ShortLines.{HasShortRows};
 ghost use Rattle.ht_calc.specs.States.{start};
 ghost use Rattle.ht_calc.specs.Steps.{IsRowsRefusal, Does, Step};
 
@@ -23,15 +26,19 @@ use std::marker::Model;
 pub struct Session {
     shape: Option<Shape>,
     budget: u32,
+    // elements of the shape; none without one
     names: Bindings,
 }
 
 impl Model for Session {
+    ghost use Rattle.ht_calc.specs.Names.{rows_by_name, AreOfShape};
     ghost use Rattle.ht_calc.specs.States.{State};
 
     ghost Value = { State };
 
-    ghost view = { λ session. record { shape = session.shape; budget = session.budget; names = session.names } };
+    ghost view = { λ session. record { shape = session.shape; budget = session.budget; names = rows_by_name session.names } };
+
+    ghost invariant = { λ session. AreOfShape session.shape session.names };
 }
 
 impl Session {
@@ -49,7 +56,7 @@ impl Session {
 
     /// Answers one line, without its line feed. After a refused answer, and after want of memory,
     /// the session is as before. `reduce` and `let` take as long as the sorting of their rows, and
-    /// `show` as long as the copying of its rows.
+    /// `show` as long as the copying of its rows. `equal` makes one pass over the rows.
     pub fn answer<L: Library>(
         &mut self,
         alloc: Global,
@@ -73,6 +80,7 @@ impl Session {
 
     // Answers a line of the grammar.
     fn answer_to(&mut self, alloc: Global, line: Line) -> Result<Answer, NoMemory>
+        requires short { HasShortRows line }
         ensures step { IfOk result (λ answer. Does self.old line answer self.new) }
         ensures text { IfOk result HasAnswerText }
         ensures err { OnErr result (self.new ≡ self.old) }
@@ -83,6 +91,7 @@ impl Session {
             Line::Reduce(rows) => self.reduce(alloc, rows),
             Line::LetRows { name, rows } => self.bind(alloc, name, rows),
             Line::Show(name) => self.show(alloc, name),
+            Line::Equal(first, second) => Ok(self.compare(first, second)),
         }
     }
 
@@ -103,6 +112,7 @@ impl Session {
     }
 
     fn reduce(&self, alloc: Global, rows: Rows) -> Result<Answer, NoMemory>
+        requires short { length (rows_text rows) ≤ 65536 }
         ensures step { IfOk result (λ answer. Does self.now (line.Reduce rows) answer self.now) }
         ensures text { IfOk result HasAnswerText }
     {
@@ -117,6 +127,7 @@ impl Session {
 
     // The element is made before the session changes, and bound last.
     fn bind(&mut self, alloc: Global, name: Name, rows: Rows) -> Result<Answer, NoMemory>
+        requires short { length (rows_text rows) ≤ 65536 }
         ensures step { IfOk result (λ answer. Does self.old (line.LetRows name rows) answer self.new) }
         ensures text { IfOk result HasAnswerText }
         ensures err { OnErr result (self.new ≡ self.old) }
@@ -152,16 +163,34 @@ impl Session {
         };
         Ok(Answer::Pair(element.rows(alloc)?))
     }
+
+    fn compare(&self, first: Name, second: Name) -> Answer
+        ensures step { Does self.now (line.Equal first second) result self.now }
+        ensures text { HasAnswerText result }
+    {
+        if self.shape.is_none() {
+            return Answer::Refused(Refusal::Group);
+        }
+        let Some(element) = self.names.get(&first) else {
+            return Answer::Refused(Refusal::Name(first));
+        };
+        let Some(other) = self.names.get(&second) else {
+            return Answer::Refused(Refusal::Name(second));
+        };
+        Answer::Equal(element.same(other))
+    }
 }
 
-// The refusal that says why rows are no element.
+// The refusal that says why the rows of a line are no element. No line has the rows of a large one.
 fn refusal_of(fault: RowsFault) -> Result<Refusal, NoMemory>
+    requires not_large { (rows letters : ℕ) → fault ≢ Large rows letters }
     ensures { (shape : Shape) (rows : List Row) → IsRowsFault shape rows fault → IfOk result (IsRowsRefusal shape rows) }
 {
     match fault {
         RowsFault::Foreign(place) => Ok(Refusal::RowsForeign(place)),
         RowsFault::FromNotBasis => Ok(Refusal::RowsFrom),
         RowsFault::ToNotBasis => Ok(Refusal::RowsTo),
+        RowsFault::Large { .. } => unreachable!(),
         RowsFault::NoMemory => Err(NoMemory),
     }
 }

@@ -123,7 +123,7 @@ basis_from shape X words free k long = record { words = words; prefix_free = fre
 
 -- ---- the roots are a basis
 
-root_at_most : (k : ℕ) (w : Word) → Contains (roots_to k) w → (1 ≤ w.root) × (w.root ≤ k) × (w ≡ root_word w.root)
+pub root_at_most : (k : ℕ) (w : Word) → Contains (roots_to k) w → (1 ≤ w.root) × (w.root ≤ k) × (w ≡ root_word w.root)
 root_at_most zero w c = absurd (Contains-nil w c)
 root_at_most (suc k) w c = elim (Contains-append_cases (roots_to k) (root_word (suc k) ∷ []) w c) [
   | inl h ↦ (let g = root_at_most k w h in (g.0, omega (arith, g.1), g.2))

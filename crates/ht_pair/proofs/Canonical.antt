@@ -70,15 +70,18 @@ all_merged shape p q before h =
 moves_permuted : (p q : List Row) → IsPermutation p q → (w t : Word) → Moves p w t → Moves q w t
 moves_permuted p q perm w t m = record { row = m.row; rest = m.rest; listed = Contains-permutation p q m.row perm m.listed; from = m.from; to = m.to }
 
-longest_permuted : (side : Row → Word) (p q : List Row) → IsPermutation p q → longest (map side q) ≤ longest (map side p)
-longest_permuted side p q perm = longest_least (map side q) (longest (map side p)) (λ w c.
+-- some of the rows have no longer words
+pub longest_within : (side : Row → Word) (p q : List Row) → ((row : Row) → Contains q row → Contains p row) → longest (map side q) ≤ longest (map side p)
+longest_within side p q listed = longest_least (map side q) (longest (map side p)) (λ w c.
     let g = contained_in_map side q w c in
-    longest_bounds (map side p) w (subst (Contains (map side p)) g.2 (Contains-map side p g.0 (Contains-permutation q p g.0 (IsPermutation-sym p q perm) g.1))))
+    longest_bounds (map side p) w (subst (Contains (map side p)) g.2 (Contains-map side p g.0 (listed g.0 g.1))))
 
 -- the canonical pair of rows is that of the rows in another order
 pub reduced_permuted : (shape : Shape) (rows sorted q : List Row) → IsPermutation rows sorted → IsReducedOf shape sorted q → IsReducedOf shape rows q
-reduced_permuted shape rows sorted q perm h = record {
-  canonical = record { form = h.canonical.form; alike = λ w v v' k m m'. h.canonical.alike w v v' k m (moves_permuted rows sorted perm w v' m') };
-  fewer = omega (arith, h.fewer, length_permutation rows sorted perm);
-  shorter = omega (arith, h.shorter, longest_permuted (λ row. row.from) rows sorted perm, longest_permuted (λ row. row.to) rows sorted perm);
-}
+reduced_permuted shape rows sorted q perm h =
+    let listed = λ (row : Row) (c : Contains sorted row). Contains-permutation sorted rows row (IsPermutation-sym rows sorted perm) c in
+    record {
+      canonical = record { form = h.canonical.form; alike = λ w v v' k m m'. h.canonical.alike w v v' k m (moves_permuted rows sorted perm w v' m') };
+      fewer = omega (arith, h.fewer, length_permutation rows sorted perm);
+      shorter = omega (arith, h.shorter, longest_within (λ row. row.from) rows sorted listed, longest_within (λ row. row.to) rows sorted listed);
+    }

@@ -1,5 +1,5 @@
 -- Carets at the end of rows. Where the last row closes none, a reduced list stays reduced with that row behind it.
-use Rattle.std.proofs.Common.{◌≡◌, ℕ, suc, ◌≤◌, ◌-◌, inl, inr, List, [], ◌∷◌, ◌++◌, length, sym, ap, ◌∙◌, subst, arith, Contains}
+use Rattle.std.proofs.Common.{◌≡◌, ℕ, suc, ◌≤◌, ◌-◌, inl, inr, List, [], ◌∷◌, ◌++◌, length, sym, ap, ◌∙◌, subst, append_assoc, append-nil, arith, Contains}
 use Rattle.std.proofs.lemmas.List.{length-append}
 use Rattle.ht_word.specs.declared.word.Word.{Word}
 use Rattle.ht_word.specs.declared.shape.Shape.{Shape}
@@ -7,7 +7,8 @@ use Rattle.ht_word.specs.Words.{child}
 use Rattle.ht_word.proofs.ListLaws.{trichotomy}
 use Rattle.ht_pair.specs.declared.row.Row.{Row}
 use Rattle.ht_pair.specs.Actions.{child_row, IsReduced}
-use Rattle.ht_pair.specs.Merges.{child_rows, ClosesCaret}
+use Rattle.ht_pair.specs.Merges.{child_rows, ClosesCaret, Merges, MergesDown}
+use Rattle.ht_pair.specs.Merges.Merges.{merged}
 use Rattle.ht_pair.proofs.ConeOrder.{IsBefore, before_irreflexive, before_trans, child_before}
 use Rattle.ht_pair.proofs.Sequences.{in_front_or, length-each}
 use Rattle.ht_pair.proofs.Siblings.{AreOrdered, ordered_front, before_last, same_letter, siblings_last}
@@ -49,3 +50,16 @@ still_reduced shape p row ordered reduced open_end u v rows = elim (in_front_or 
   | inl c ↦ reduced u v (λ a low high. all_before shape p row u v ordered c a high (rows a low high))
   | inr e ↦ open_end (closing shape p row u v ordered e rows)
 ]
+
+-- the row takes the place of the caret that it closes
+pub caret_merged : (shape : Shape) (rows front : List Row) (row last : Row) → MergesDown shape rows row front last → (h : ClosesCaret shape front last) → MergesDown shape rows row h.before (record { from = h.from; to = h.to })
+caret_merged shape rows front row last added h =
+    let K = child_rows h.from h.to (shape.n - 1) in
+    let next : suc (shape.n - 1) ≡ shape.n = omega (arith, shape.letters_low) in
+    let caret : K ++ last ∷ [] ≡ child_rows h.from h.to shape.n = ap (λ t. K ++ t ∷ []) (h.last_is ∙ ap (child_row h.from h.to) (sym next)) ∙ ap (child_rows h.from h.to) next in
+    let is : front ++ last ∷ [] ≡ h.before ++ child_rows h.from h.to shape.n ++ [] = ap (λ t. t ++ last ∷ []) h.rows_are ∙ append_assoc h.before K (last ∷ []) ∙ ap (λ t. h.before ++ t) caret ∙ sym (append-nil (h.before ++ child_rows h.from h.to shape.n)) in
+    record {
+      merges = merged h.before [] h.from h.to (subst (Merges shape (rows ++ row ∷ [])) is added.merges);
+      taken = K ++ added.taken;
+      rows_are = added.rows_are ∙ ap (λ t. t ++ added.taken) h.rows_are ∙ append_assoc h.before K added.taken;
+    }

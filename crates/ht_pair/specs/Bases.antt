@@ -7,7 +7,9 @@
 --     Covers shape W V       W is prefix-free, and under W are just the words under V
 --     roots shape            the roots x1 to xr
 --     IsBasis shape X        X covers the roots: each infinite word has exactly one prefix in X
-use Rattle.std.specs.Prelude.{ℕ, zero, suc, ◌≡◌, List, [], ◌∷◌, ◌++◌, ◌↔◌, length, max, All, AllPairs}
+--     IsAllUnder X W         each word of X is under W
+--     TakesAtMost shape X k  X has at most the words of k expansions of the roots, each of one word to n words
+use Rattle.std.specs.Prelude.{ℕ, zero, suc, ◌≡◌, ◌≤◌, ◌+◌, ◌-◌, ◌*◌, List, [], ◌∷◌, ◌++◌, ◌↔◌, length, max, All, AllPairs}
 use Rattle.ht_word.specs.declared.word.Word.{Word}
 use Rattle.ht_word.specs.declared.shape.Shape.{Shape}
 use Rattle.ht_word.specs.Words.{IsWordOf, IsUnder, IsUnderSome, root_word}
@@ -38,3 +40,9 @@ roots shape = roots_to shape.r
 
 abbrev pub IsBasis : Shape → List Word → Type 0
 IsBasis shape X = Covers shape X (roots shape)
+
+abbrev pub IsAllUnder : List Word → List Word → Type 0
+IsAllUnder X W = All (λ x. IsUnderSome x W) X
+
+abbrev pub TakesAtMost : Shape → List Word → ℕ → Type 0
+TakesAtMost shape X k = length X ≤ shape.r + k * (shape.n - 1)

@@ -4,11 +4,13 @@
 --     to_words p       their `to` words
 --     IsPair shape p   the `from` words are a basis, and the `to` words are a basis
 --     longest_of p     the letters of the longest word of the rows
+--     turned p         each row turned round
+--     identity shape   the rows from each root to itself
 use Rattle.std.specs.Prelude.{ℕ, List, map, max}
 use Rattle.ht_word.specs.declared.word.Word.{Word}
 use Rattle.ht_word.specs.declared.shape.Shape.{Shape}
 use Rattle.ht_pair.specs.declared.row.Row.{Row}
-use Rattle.ht_pair.specs.Bases.{IsBasis, longest}
+use Rattle.ht_pair.specs.Bases.{IsBasis, longest, roots}
 
 abbrev pub from_words : List Row → List Word
 from_words p = map (λ row. row.from) p
@@ -22,3 +24,9 @@ pub record IsPair (shape : Shape) (p : List Row) : Type 0 where
 
 abbrev pub longest_of : List Row → ℕ
 longest_of p = max (longest (from_words p)) (longest (to_words p))
+
+abbrev pub turned : List Row → List Row
+turned p = map (λ row. record { from = row.to; to = row.from }) p
+
+abbrev pub identity : Shape → List Row
+identity shape = map (λ x. record { from = x; to = x }) (roots shape)

@@ -1,4 +1,4 @@
--- Why rows are no element: a word outside the shape, or a side that is no basis (Higman 1974).
+-- Why rows are no element: a word outside the shape, a side that is no basis (Higman 1974), or an element that is too large.
 --
 --     IsRowOf shape row                both words of the row are of the shape
 --     AreRowsOf shape rows             each row is of the shape
@@ -11,9 +11,10 @@ use Rattle.ht_word.specs.declared.shape.Shape.{Shape}
 use Rattle.ht_word.specs.Words.{IsWordOf}
 use Rattle.ht_pair.specs.declared.row.Row.{Row}
 use Rattle.ht_pair.specs.declared.fault.RowsFault.{RowsFault}
-use Rattle.ht_pair.specs.declared.fault.RowsFault.TheVariants.{Foreign, FromNotBasis, ToNotBasis, NoMemory}
+use Rattle.ht_pair.specs.declared.fault.RowsFault.TheVariants.{Foreign, FromNotBasis, ToNotBasis, Large, NoMemory}
 use Rattle.ht_pair.specs.Bases.{IsBasis}
-use Rattle.ht_pair.specs.Pairs.{from_words, to_words}
+use Rattle.ht_pair.specs.Pairs.{IsPair, from_words, to_words}
+use Rattle.ht_pair.specs.Sizes.{IsLarge}
 
 pub record IsRowOf (shape : Shape) (row : Row) : Type 0 where
   pub from : IsWordOf shape row.from
@@ -44,4 +45,5 @@ abbrev pub IsRowsFault : Shape → List Row → RowsFault → Type 0
 IsRowsFault shape rows (Foreign place) = IsFirstForeign shape rows place
 IsRowsFault shape rows FromNotBasis = IsFromFault shape rows
 IsRowsFault shape rows ToNotBasis = IsToFault shape rows
+IsRowsFault shape rows (Large count letters) = IsPair shape rows × IsLarge shape rows count letters
 IsRowsFault shape rows NoMemory = ⊤

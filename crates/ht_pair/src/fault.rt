@@ -15,6 +15,10 @@ pub enum RowsFault {
     /// The `to` words aren't a basis.
     #[error("the words behind the arrows are not a basis")]
     ToNotBasis,
+    /// The rows are a pair, but the canonical pair of its element has more than 8,192 rows or a
+    /// word of more than 1,024 letters: its number of rows, and the letters of its longest word.
+    #[error("the element has {rows} rows and words of {letters} letters")]
+    Large { rows: usize, letters: usize },
     /// No memory was found.
     #[error("out of memory")]
     NoMemory,

@@ -7,13 +7,17 @@
 //! - `element`: elements, made from rows
 //! - `fault`: why rows are no element
 //! - `reduce`: the reduced rows of a pair
+//! - `moves`: how rows move words
 //! - `pair`: the test whether rows are a pair
 //! - `tiling`: the test whether sorted words are a basis
 //! - `side`: the `from` words or the `to` words of rows, and sorting by them
+//! - `laws`: the laws that show the definitions right
 #![tactic(auto)]
 
 mod element;
 mod fault;
+pub mod laws;
+mod moves;
 mod pair;
 mod reduce;
 mod row;

@@ -1,5 +1,5 @@
 //! Rows: what a cone is sent to.
-ghost use Rattle.std.specs.Prelude.{◌≡◌, IfOk};
+ghost use Rattle.std.specs.Prelude.{◌≡◌, ◌↔◌, IsTrue, IfOk};
 
 use ht_word::{List, NoMemory, Word};
 use std::alloc::Global;
@@ -22,5 +22,12 @@ impl Row {
         let from = self.from.copy(alloc)?;
         let to = self.to.copy(alloc)?;
         Ok(Row { from, to })
+    }
+
+    // Whether the rows are equal. At most one pass over the letters.
+    pub(crate) fn same(&self, other: &Row) -> bool
+        ensures { IsTrue result ↔ (self.now ≡ other.now) }
+    {
+        self.from.same(&other.from) && self.to.same(&other.to)
     }
 }

@@ -23,25 +23,26 @@ use Rattle.ht_script.proofs.SpacedFronts.{Fits, TakesSpace}
 
 -- every command
 abbrev pub commands : List Command
-commands = command.Group ∷ command.Reduce ∷ command.Let ∷ command.Show ∷ []
+commands = command.Group ∷ command.Reduce ∷ command.Let ∷ command.Show ∷ command.Equal ∷ []
 
 -- the word of the command at a place
 abbrev pub word_at : ℕ → List ℕ
 word_at k = keyword (get_or commands k command.Group)
 
 -- where a command stands among all
-place_of : (c : Command) → (k : ℕ) × (k < 4) × (keyword c ≡ word_at k)
+place_of : (c : Command) → (k : ℕ) × (k < 5) × (keyword c ≡ word_at k)
 place_of command.Group = (0, omega arith, refl)
 place_of command.Reduce = (1, omega arith, refl)
 place_of command.Let = (2, omega arith, refl)
 place_of command.Show = (3, omega arith, refl)
+place_of command.Equal = (4, omega arith, refl)
 
 -- a test that two texts differ
 pub differs : (token word : List ℕ) (same : Bool) → same ≡ pointwise eqb token word → same ≡ false → token ≢ word
 differs token word same test is e = true≢false (sym ((bytes_decides token word).1 e) ∙ sym test ∙ is)
 
 -- a token that is the word of no command
-pub no_keyword : (token : List ℕ) (n : ℕ) → 4 ≤ n → ((k : ℕ) → k < n → token ≢ word_at k) → ¬ IsKeyword token
+pub no_keyword : (token : List ℕ) (n : ℕ) → 5 ≤ n → ((k : ℕ) → k < n → token ≢ word_at k) → ¬ IsKeyword token
 no_keyword token n all none h = let at = place_of h.0 in none at.0 (omega (arith, at.1)) (h.1 ∙ at.2)
 
 -- the longest front that the words of the first n commands have
@@ -79,7 +80,7 @@ longest_of_new token n most next h g more = longest_of_next token n most next ne
 pub longest_of_old : (token : List ℕ) (n most next : ℕ) → IsLongestOf token n most → IsLongestFront (Is (word_at n)) token next → next ≤ most → IsLongestOf token (n + 1) most
 longest_of_old token n most next h g less = longest_of_next token n most next most h g (omega arith) less (inl refl)
 
-pub longest_of_all : (token : List ℕ) (n most : ℕ) → 4 ≤ n → IsLongestOf token n most → IsLongestFront IsKeyword token most
+pub longest_of_all : (token : List ℕ) (n most : ℕ) → 5 ≤ n → IsLongestOf token n most → IsLongestFront IsKeyword token most
 longest_of_all token n most all h = record {
   within = h.within;
   front = h.front;
@@ -177,6 +178,7 @@ finds command.Group = refl
 finds command.Reduce = refl
 finds command.Let = refl
 finds command.Show = refl
+finds command.Equal = refl
 
 -- each command has a word of its own
 pub same_command : (c d : Command) → keyword c ≡ keyword d → c ≡ d
@@ -191,6 +193,7 @@ no_mark command.Group x y e = let same = head_of 103 35 (codes "roup" ++ x) y e 
 no_mark command.Reduce x y e = let same = head_of 114 35 (codes "educe" ++ x) y e in omega arith
 no_mark command.Let x y e = let same = head_of 108 35 (codes "et" ++ x) y e in omega arith
 no_mark command.Show x y e = let same = head_of 115 35 (codes "how" ++ x) y e in omega arith
+no_mark command.Equal x y e = let same = head_of 101 35 (codes "qual" ++ x) y e in omega arith
 
 -- the word of a command is a token
 pub keyword_token : (c : Command) → IsToken (keyword c)
@@ -198,6 +201,7 @@ keyword_token command.Group = record { some = omega arith; no_space = All-from_r
 keyword_token command.Reduce = record { some = omega arith; no_space = All-from_recursion (λ b. b ≢ 32) (keyword command.Reduce) (search rules) }
 keyword_token command.Let = record { some = omega arith; no_space = All-from_recursion (λ b. b ≢ 32) (keyword command.Let) (search rules) }
 keyword_token command.Show = record { some = omega arith; no_space = All-from_recursion (λ b. b ≢ 32) (keyword command.Show) (search rules) }
+keyword_token command.Equal = record { some = omega arith; no_space = All-from_recursion (λ b. b ≢ 32) (keyword command.Equal) (search rules) }
 
 -- without slots there are spaces
 pub longest_no_slots : (slots : List Slot) (bytes : List ℕ) (k : ℕ) → length slots ≡ 0 → IsSpan (λ b. b ≡ 32) bytes k → IsLongestFront (IsBehind slots) bytes k

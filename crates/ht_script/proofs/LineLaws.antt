@@ -10,7 +10,7 @@ use Rattle.ht_text.specs.Fronts.{IsFront, IsLongestFront}
 use Rattle.ht_script.specs.declared.command.Command.{Command}
 use Rattle.ht_script.specs.declared.command.Command.TheVariants as command
 use Rattle.ht_script.specs.declared.line.Line.{Line}
-use Rattle.ht_script.specs.declared.line.Line.TheVariants.{Blank, Group, Reduce, LetRows, Show}
+use Rattle.ht_script.specs.declared.line.Line.TheVariants.{Blank, Group, Reduce, LetRows, Show, Equal}
 use Rattle.ht_script.specs.Tokens.{◌▸◌, Is, IsSpaces, IsToken, IsSpaced, IsSpan, IsFirstToken}
 use Rattle.ht_script.specs.Lines.{IsMarked, IsComment, IsNumber, AreRows, IsNamed, IsLine, IsLineText}
 use Rattle.ht_script.specs.Slots.{keyword, slots_of, IsBehind, IsKeyword, IsUnmarked}
@@ -65,6 +65,9 @@ let_behind rest b =
 pub show_behind : (rest : List ℕ) → IsBehind (slots_of command.Show) rest → (name : List ℕ) × (IsNamed name ▸ IsSpaces) rest
 show_behind rest b = (b.token, refit _ (λ t u. IsNamed b.token t × IsSpaces u) rest b ((b.fits.0, refl), b.fits.1))
 
+pub equal_behind : (rest : List ℕ) → IsBehind (slots_of command.Equal) rest → (first : List ℕ) × (second : List ℕ) × (IsNamed first ▸ IsNamed second ▸ IsSpaces) rest
+equal_behind rest b = let last = show_behind b.rest b.fits.1 in (b.token, last.0, refit _ (λ t u. IsNamed b.token t × (IsNamed last.0 ▸ IsSpaces) u) rest b ((b.fits.0, refl), last.1))
+
 -- the line of a command
 line_of : (bytes : List ℕ) (s : IsCommandText bytes) (c : Command) → s.token ≡ keyword c → IsBehind (slots_of c) s.rest → IsLineText bytes
 line_of bytes s command.Group word b =
@@ -75,6 +78,8 @@ line_of bytes s command.Let word b =
     let v = let_behind s.rest b in (LetRows v.0 v.1, refit CommandFits (λ t u. Is (codes "let") t × (IsNamed v.0 ▸ Is (codes "=") ▸ AreRows v.1 ▸ IsSpaces) u) bytes s (word, v.2))
 line_of bytes s command.Show word b =
     let v = show_behind s.rest b in (Show v.0, refit CommandFits (λ t u. Is (codes "show") t × (IsNamed v.0 ▸ IsSpaces) u) bytes s (word, v.1))
+line_of bytes s command.Equal word b =
+    let v = equal_behind s.rest b in (Equal v.0 v.1, refit CommandFits (λ t u. Is (codes "equal") t × (IsNamed v.0 ▸ IsNamed v.1 ▸ IsSpaces) u) bytes s (word, v.2))
 
 pub command_line : (bytes : List ℕ) → IsCommandText bytes → IsLineText bytes
 command_line bytes s = line_of bytes s s.fits.of s.fits.word s.fits.behind
@@ -86,6 +91,7 @@ command_for (Group n r) = Some command.Group
 command_for (Reduce rows) = Some command.Reduce
 command_for (LetRows name rows) = Some command.Let
 command_for (Show name) = Some command.Show
+command_for (Equal first second) = Some command.Equal
 
 -- bytes of a line, by its command
 abbrev pub Told : List ℕ → Option Command → Type 0
@@ -103,6 +109,9 @@ told (LetRows name rows) bytes h =
     let last = equals.fits.1 in
     refit _ _ bytes h (h.fits.0, refit _ _ h.rest named (named.fits.0.0, refit _ _ named.rest equals (equals.fits.0, refit _ _ equals.rest last ((rows, last.fits.0), last.fits.1))))
 told (Show name) bytes h = refit _ _ bytes h (h.fits.0, refit _ _ h.rest h.fits.1 (h.fits.1.fits.0.0, h.fits.1.fits.1))
+told (Equal first second) bytes h =
+    let last = h.fits.1.fits.1 in
+    refit _ _ bytes h (h.fits.0, refit _ _ h.rest h.fits.1 (h.fits.1.fits.0.0, refit _ _ h.fits.1.rest last (last.fits.0.0, last.fits.1)))
 
 pub command_text : (bytes : List ℕ) (c : Command) → (Is (keyword c) ▸ IsBehind (slots_of c)) bytes → IsCommandText bytes
 command_text bytes c h = refit (λ t u. Is (keyword c) t × IsBehind (slots_of c) u) CommandFits bytes h (record { of = c; word = h.fits.0; behind = h.fits.1 })

@@ -7,7 +7,7 @@ use Rattle.ht_text.proofs.RowTexts.{same_rows}
 use Rattle.ht_script.specs.declared.command.Command.{Command}
 use Rattle.ht_script.specs.declared.command.Command.TheVariants as command
 use Rattle.ht_script.specs.declared.line.Line.{Line}
-use Rattle.ht_script.specs.declared.line.Line.TheVariants.{Blank, Group, Reduce, LetRows, Show}
+use Rattle.ht_script.specs.declared.line.Line.TheVariants.{Blank, Group, Reduce, LetRows, Show, Equal}
 use Rattle.ht_script.specs.Tokens.{◌▸◌, Is, IsSpaces, IsToken}
 use Rattle.ht_script.specs.Lines.{IsComment, IsNumber, AreRows, IsNamed, IsLine}
 use Rattle.ht_script.specs.Slots.{keyword, slots_of, IsBehind}
@@ -87,6 +87,12 @@ same_line bytes (LetRows a p) (LetRows b q) e g h =
 same_line bytes (Show a) (Show b) e g h =
     let rest = behind_both command.Show (IsNamed a ▸ IsSpaces) (IsNamed b ▸ IsSpaces) bytes g h in
     ap Show (one_name a b IsSpaces IsSpaces rest.rest rest.behind_first rest.behind_second).0
+same_line bytes (Equal a b) (Equal a' b') e g h =
+    let rest = behind_both command.Equal (IsNamed a ▸ IsNamed b ▸ IsSpaces) (IsNamed a' ▸ IsNamed b' ▸ IsSpaces) bytes g h in
+    let firsts = one_name a a' (IsNamed b ▸ IsSpaces) (IsNamed b' ▸ IsSpaces) rest.rest rest.behind_first rest.behind_second in
+    let first_is = firsts.0 in
+    let second_is = (one_name b b' IsSpaces IsSpaces firsts.1.rest firsts.1.behind_first firsts.1.behind_second).0 in
+    cc
 same_line bytes _ _ e g h = absurd cc
 
 pub one_line : (bytes : List ℕ) (l m : Line) → IsLine bytes l → IsLine bytes m → l ≡ m

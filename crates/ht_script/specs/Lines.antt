@@ -12,7 +12,7 @@ use Rattle.std.specs.Prelude.{◌≡◌, ◌≢◌, ◌⊎◌, ℕ, List, ◌∷
 use Rattle.ht_pair.specs.declared.row.Row.{Row}
 use Rattle.ht_text.specs.Texts.{IsNum, IsRows}
 use Rattle.ht_script.specs.declared.line.Line.{Line}
-use Rattle.ht_script.specs.declared.line.Line.TheVariants.{Blank, Group, Reduce, LetRows, Show}
+use Rattle.ht_script.specs.declared.line.Line.TheVariants.{Blank, Group, Reduce, LetRows, Show, Equal}
 use Rattle.ht_script.specs.Tokens.{IsSpaces, Is, ◌▸◌}
 use Rattle.ht_script.specs.Names.{IsName}
 
@@ -41,6 +41,7 @@ IsLine bytes (Group n r) = (Is (codes "group") ▸ IsNumber n ▸ IsNumber r ▸
 IsLine bytes (Reduce rows) = (Is (codes "reduce") ▸ AreRows rows ▸ IsSpaces) bytes
 IsLine bytes (LetRows name rows) = (Is (codes "let") ▸ IsNamed name ▸ Is (codes "=") ▸ AreRows rows ▸ IsSpaces) bytes
 IsLine bytes (Show name) = (Is (codes "show") ▸ IsNamed name ▸ IsSpaces) bytes
+IsLine bytes (Equal first second) = (Is (codes "equal") ▸ IsNamed first ▸ IsNamed second ▸ IsSpaces) bytes
 
 abbrev pub IsNoLine : List ℕ → Type 0
 IsNoLine bytes = (line : Line) → ¬ IsLine bytes line

@@ -21,12 +21,14 @@ keyword command.Group = codes "group"
 keyword command.Reduce = codes "reduce"
 keyword command.Let = codes "let"
 keyword command.Show = codes "show"
+keyword command.Equal = codes "equal"
 
 abbrev pub slots_of : Command → List Slot
 slots_of command.Group = Number ∷ Number ∷ []
 slots_of command.Reduce = Rows ∷ []
 slots_of command.Let = Name ∷ Equals ∷ Rows ∷ []
 slots_of command.Show = Name ∷ []
+slots_of command.Equal = Name ∷ Name ∷ []
 
 abbrev pub IsSlot : Slot → List ℕ → Type 0
 IsSlot Number token = IsNumText token

@@ -14,6 +14,7 @@ pub(crate) enum Command {
     Reduce,
     Let,
     Show,
+    Equal,
 }
 
 /// What a token behind the first word is.
@@ -26,7 +27,13 @@ pub(crate) enum Slot {
 }
 
 // Every command.
-const COMMANDS: [Command; 4] = [Command::Group, Command::Reduce, Command::Let, Command::Show];
+const COMMANDS: [Command; 5] = [
+    Command::Group,
+    Command::Reduce,
+    Command::Let,
+    Command::Show,
+    Command::Equal,
+];
 
 impl Command {
     // The command's word.
@@ -38,6 +45,7 @@ impl Command {
             Command::Reduce => b"reduce",
             Command::Let => b"let",
             Command::Show => b"show",
+            Command::Equal => b"equal",
         }
     }
 
@@ -50,6 +58,7 @@ impl Command {
             Command::Reduce => &[Slot::Rows],
             Command::Let => &[Slot::Name, Slot::Equals, Slot::Rows],
             Command::Show => &[Slot::Name],
+            Command::Equal => &[Slot::Name, Slot::Name],
         }
     }
 

@@ -24,6 +24,8 @@ pub enum Line {
     LetRows { name: Name, rows: Rows },
     /// `show` and a name.
     Show(Name),
+    /// `equal` and two names.
+    Equal(Name, Name),
 }
 
 /// Why bytes give no line.
@@ -47,7 +49,7 @@ impl From<NoMemory> for LineFault {
 }
 
 /// The line that the bytes are the text of. Any bytes are taken. Linear in the bytes: at most
-/// twelve passes over them; the memory is that of the rows and the name.
+/// twelve passes over them; the memory is that of the rows and the names.
 pub fn read_line(alloc: Global, line: &[u8]) -> Result<Line, LineFault>
     ensures line { IfOk result (IsLine line.now) }
     ensures syntax { (column : ℕ) → IsErrOf result (LineFault.Syntax column)

@@ -63,6 +63,12 @@ fn read_command(alloc: Global, line: &[u8]) -> Result<Option<Line>, NoMemory>
             };
             Ok(Some(Line::Show(name)))
         }
+        Command::Equal => {
+            let Some((first, second)) = read_two_names(alloc, rest)? else {
+                return Ok(None);
+            };
+            Ok(Some(Line::Equal(first, second)))
+        }
     }
 }
 
@@ -120,6 +126,24 @@ fn read_last_name(alloc: Global, bytes: &[u8]) -> Result<Option<Name>, NoMemory>
         return Ok(None);
     };
     read_name(alloc, token)
+}
+
+// The two names behind `equal`. Three passes over the bytes.
+fn read_two_names(alloc: Global, bytes: &[u8]) -> Result<Option<(Name, Name)>, NoMemory>
+    ensures { IfOk result (λ found. MatchOption found
+        ((first second : List ℕ) → ¬ (IsNamed first ▸ IsNamed second ▸ IsSpaces) bytes.now)
+        (λ p. (IsNamed p.0 ▸ IsNamed p.1 ▸ IsSpaces) bytes.now)) }
+{
+    let Some((_, token, rest)) = first_token(bytes) else {
+        return Ok(None);
+    };
+    let Some(first) = read_name(alloc, token)? else {
+        return Ok(None);
+    };
+    let Some(second) = read_last_name(alloc, rest)? else {
+        return Ok(None);
+    };
+    Ok(Some((first, second)))
 }
 
 // The name that the bytes are.

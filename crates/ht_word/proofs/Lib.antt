@@ -1,3 +1,4 @@
 pub mod WordLaws
 pub mod ListLaws
 pub mod PrefixTests
+pub mod Deciding

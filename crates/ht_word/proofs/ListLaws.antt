@@ -128,3 +128,30 @@ contained_in_flat_map f (x ∷ xs) y c = elim (Contains-append_cases (f x) (flat
 -- two elements that f sends to elements at one place are one
 pub same_by_map : {X Y : Type 0} (f : X → Y) (R : Y → Y → Type 0) (xs : List X) → AllPairs R (map f xs) → (x y : X) → Contains xs x → Contains xs y → ¬ R (f x) (f y) → ¬ R (f y) (f x) → x ≡ y
 same_by_map f R xs h x y c e not_before not_after = same_element (λ x y. R (f x) (f y)) xs (AllPairs-from_map f R xs h) x y c e not_before not_after
+
+-- two lists in ascending order with the same elements are one
+pub ascending_same : {X : Type 0} (R : X → X → Type 0) → ((x y : X) → R x y → R y x → ⊥) → (xs ys : List X) → AllPairs R xs → AllPairs R ys → ((x : X) → Contains xs x → Contains ys x) → ((x : X) → Contains ys x → Contains xs x) → xs ≡ ys
+ascending_same R once [] [] h g to from = refl
+ascending_same R once [] (y ∷ ys) h g to from = absurd (Contains-nil y (from y (Contains-here y ys)))
+ascending_same R once (x ∷ xs) [] h g to from = absurd (Contains-nil x (to x (Contains-here x xs)))
+ascending_same R once (x ∷ xs) (y ∷ ys) h g to from =
+    let heads : x ≡ y = same_heads R once x y xs ys h g (to x (Contains-here x xs)) (from y (Contains-here y ys)) in
+    let tails : xs ≡ ys = ascending_same R once xs ys (AllPairs-tail R x xs h) (AllPairs-tail R y ys g)
+    (λ z c. in_tail R once x y z xs ys h heads c (to z (Contains-there x xs z c)))
+    (λ z c. in_tail R once y x z ys xs g (sym heads) c (from z (Contains-there y ys z c))) in
+    cc
+  where
+    same_heads : {X : Type 0} (R : X → X → Type 0) → ((x y : X) → R x y → R y x → ⊥) → (x y : X) (xs ys : List X) → AllPairs R (x ∷ xs) → AllPairs R (y ∷ ys) → Contains (y ∷ ys) x → Contains (x ∷ xs) y → x ≡ y
+    same_heads R once x y xs ys h g c e = elim (Contains-cons_cases y ys x c) [
+      | inl s ↦ sym s
+      | inr k ↦ elim (Contains-cons_cases x xs y e) [
+        | inl s ↦ s
+        | inr m ↦ absurd (once x y (All-contains (R x) xs y (AllPairs-head R x xs h) m) (All-contains (R y) ys x (AllPairs-head R y ys g) k))
+      ]
+    ]
+
+    in_tail : {X : Type 0} (R : X → X → Type 0) → ((x y : X) → R x y → R y x → ⊥) → (x y z : X) (xs ys : List X) → AllPairs R (x ∷ xs) → x ≡ y → Contains xs z → Contains (y ∷ ys) z → Contains ys z
+    in_tail R once x y z xs ys h same c e = elim (Contains-cons_cases y ys z e) [
+      | inl s ↦ (let loop : R x x = subst (λ t. R x t) (sym (same ∙ s)) (All-contains (R x) xs z (AllPairs-head R x xs h) c) in absurd (once x x loop loop))
+      | inr k ↦ k
+    ]

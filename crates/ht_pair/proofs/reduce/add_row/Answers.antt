@@ -1,4 +1,4 @@
-use Rattle.std.proofs.Common.{◌≡◌, ℕ, suc, ◌-◌, Option, Some, None, MatchOption, List, [], ◌∷◌, ◌++◌, length, take, refl, sym, ap, ◌∙◌, subst, subst₂, append_assoc, append-nil, arith}
+use Rattle.std.proofs.Common.{◌≡◌, ℕ, ◌-◌, Option, Some, None, MatchOption, List, [], ◌∷◌, ◌++◌, length, take, refl, sym, ap, ◌∙◌, subst, subst₂, append-nil, arith}
 use Rattle.std.proofs.lemmas.List.{length-append}
 use Rattle.std.proofs.Math.Seq.{take-append_seam}
 use Rattle.ht_word.specs.declared.word.Word.{Word}
@@ -6,29 +6,16 @@ use Rattle.ht_word.specs.declared.shape.Shape.{Shape}
 use Rattle.ht_word.proofs.WordLaws.{word_eq}
 use Rattle.ht_pair.specs.declared.row.Row.{Row}
 use Rattle.ht_pair.specs.Actions.{child_row}
-use Rattle.ht_pair.specs.Merges.{child_rows, ClosesCaret, Merges, MergesDown}
-use Rattle.ht_pair.specs.Merges.Merges.{unmerged, merged}
+use Rattle.ht_pair.specs.Merges.{child_rows, ClosesCaret, MergesDown}
+use Rattle.ht_pair.specs.Merges.Merges.{unmerged}
 use Rattle.ht_pair.proofs.Sequences.{length-each, equal_parts}
-use Rattle.ht_pair.proofs.Carets.{long_enough}
+use Rattle.ht_pair.proofs.Carets.{long_enough, caret_merged}
 use Rattle.ht_pair.proofs.reduce.add_row.Goals as goal
 
 -- what `pop` leaves
 popped : (s t y : List ℕ) (a : ℕ) (r : Option ℕ) → MatchOption r ((s ≡ []) × (t ≡ [])) (λ letter. s ≡ t ++ letter ∷ []) → s ≡ y ++ a ∷ [] → t ≡ y
 popped s t y a None h e = absurd (omega (arith, ap (λ (x : List ℕ). length x) (sym h.0 ∙ e), length-append y (a ∷ [])))
 popped s t y a (Some b) h e = (equal_parts t y (b ∷ []) (a ∷ []) (sym h ∙ e) refl).0
-
--- the row takes the place of the caret that it closes
-caret_merged : (shape : Shape) (rows front : List Row) (row last : Row) → MergesDown shape rows row front last → (h : ClosesCaret shape front last) → MergesDown shape rows row h.before (record { from = h.from; to = h.to })
-caret_merged shape rows front row last added h =
-    let K = child_rows h.from h.to (shape.n - 1) in
-    let next : suc (shape.n - 1) ≡ shape.n = omega (arith, shape.letters_low) in
-    let caret : K ++ last ∷ [] ≡ child_rows h.from h.to shape.n = ap (λ t. K ++ t ∷ []) (h.last_is ∙ ap (child_row h.from h.to) (sym next)) ∙ ap (child_rows h.from h.to) next in
-    let is : front ++ last ∷ [] ≡ h.before ++ child_rows h.from h.to shape.n ++ [] = ap (λ t. t ++ last ∷ []) h.rows_are ∙ append_assoc h.before K (last ∷ []) ∙ ap (λ t. h.before ++ t) caret ∙ sym (append-nil (h.before ++ child_rows h.from h.to shape.n)) in
-    record {
-      merges = merged h.before [] h.from h.to (subst (Merges shape (rows ++ row ∷ [])) is added.merges);
-      taken = K ++ added.taken;
-      rows_are = added.rows_are ∙ ap (λ t. t ++ added.taken) h.rows_are ∙ append_assoc h.before K added.taken;
-    }
 
 caret_taken : (shape : Shape) (front : List Row) (last : Row) (h : ClosesCaret shape front last) → take (length front - (shape.n - 1)) front ≡ h.before
 caret_taken shape front last h =

@@ -5,7 +5,7 @@ use Rattle.ht_script.specs.declared.line.Line.{Line}
 use Rattle.ht_script.specs.Tokens.{IsFirstToken}
 use Rattle.ht_script.specs.Lines.{IsLine}
 use Rattle.ht_script.specs.Slots.{keyword, slots_of, IsBehind, IsUnmarked}
-use Rattle.ht_script.proofs.LineLaws.{first_command, behind_word, group_behind, reduce_behind, let_behind, show_behind}
+use Rattle.ht_script.proofs.LineLaws.{first_command, behind_word, group_behind, reduce_behind, let_behind, show_behind, equal_behind}
 use Rattle.ht_script.proofs.value.read_command.Goals as goal
 
 -- a line has behind its word what the word's command takes
@@ -37,3 +37,8 @@ pub returns-in_default-4 : goal.returns-in_default-4
 returns-in_default-4 c = λ line h.
     let v = show_behind c.in-Some.rest.now (known c.args.line.now c.in-Some.field-0-0 c.in-Some.token.now c.in-Some.rest.now c.in-Some-of_keyword.command command.Show line c.requires c.in-Some.ensures c.in-Some-of_keyword.ensures c.in-Show.is h) in
     (rw c.in_default-4.is at c.in_ok-name-in-Show.ensures) v.0 v.1
+
+pub returns-in_default-5 : goal.returns-in_default-5
+returns-in_default-5 c = λ line h.
+    let v = equal_behind c.in-Some.rest.now (known c.args.line.now c.in-Some.field-0-0 c.in-Some.token.now c.in-Some.rest.now c.in-Some-of_keyword.command command.Equal line c.requires c.in-Some.ensures c.in-Some-of_keyword.ensures c.in-Equal.is h) in
+    (rw c.in_default-5.is at c.in_ok-first-in-Equal.ensures) v.0 v.1 v.2

@@ -3,6 +3,7 @@ use Rattle.std.proofs.lemmas.Result.{IfOk-weaker}
 use Rattle.ht_answer.specs.Answers.{IsRefusal}
 use Rattle.ht_calc.specs.Steps.{Does, Step, by_line}
 use Rattle.ht_calc.proofs.StepLaws.{refused_keeps, syntax_refused}
+use Rattle.ht_calc.proofs.LineSizes.{short_rows}
 use Rattle.ht_calc.proofs.session.Session.answer.Goals as goal
 
 pub returns-in-Ok-clause-step : goal.returns-in-Ok-clause-step
@@ -21,3 +22,6 @@ pub returns-in-Err-Syntax-clause-step : goal.returns-in-Err-Syntax-clause-step
 returns-in-Err-Syntax-clause-step g c =
     syntax_refused c.args.self.now c.args.line.now c.in-Err-Syntax.column _ c.in-Err-Syntax.column-is
     (c.in-Err-Syntax.ensures.syntax c.in-Err-Syntax.column (search rules))
+
+pub answer_to-requires : goal.answer_to-requires
+answer_to-requires g c = record { short = short_rows c.args.line.now c.in-Ok.line c.in-Ok.ensures.line c.requires.length }

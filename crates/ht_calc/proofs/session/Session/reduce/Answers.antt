@@ -8,6 +8,7 @@ use Rattle.ht_answer.specs.declared.answer.Refusal.TheVariants as refusal
 use Rattle.ht_calc.specs.States.{State}
 use Rattle.ht_calc.specs.Steps.{Does, before_group, reduced, reduce_refused}
 use Rattle.ht_calc.proofs.CanonicalTexts.{pair_has_texts}
+use Rattle.ht_calc.proofs.LineSizes.{never_large}
 use Rattle.ht_calc.proofs.session.Session.reduce.Goals as goal
 
 pub returns-in_default-clause-step : goal.returns-in_default-clause-step
@@ -29,3 +30,6 @@ pub returns-in_ok-refusal_of-in-Err-clause-step : goal.returns-in_ok-refusal_of-
 returns-in_ok-refusal_of-in-Err-clause-step c =
     subst (λ (s : State). Does s (line.Reduce c.args.rows) (Refused c.in_ok-refusal_of-in-Err.field-0) s) c.self.view_is
     (reduce_refused c.args.rows c.in-Some.shape c.in_ok-refusal_of-in-Err.field-0 (search rules) (c.in_ok-refusal_of-in-Err.ensures c.in-Some.shape c.args.rows c.in-Err.ensures.fault))
+
+pub refusal_of-requires : goal.refusal_of-requires
+refusal_of-requires c = record { not_large = never_large c.in-Some.shape c.args.rows c.in-Err.fault c.requires.short c.in-Err.ensures.fault }

@@ -7,6 +7,7 @@ use Rattle.ht_answer.specs.declared.answer.Refusal.TheVariants as refusal
 use Rattle.ht_calc.specs.States.{State}
 use Rattle.ht_calc.specs.Steps.{Does, before_group, shown, show_unbound}
 use Rattle.ht_calc.proofs.CanonicalTexts.{pair_has_texts}
+use Rattle.ht_calc.proofs.NameLaws.{rows_of, bound_rows}
 use Rattle.ht_calc.proofs.session.Session.show.Goals as goal
 
 pub returns-then-is_none-clause-step : goal.returns-then-is_none-clause-step
@@ -15,12 +16,12 @@ returns-then-is_none-clause-step c =
 
 pub returns-in_default-clause-step : goal.returns-in_default-clause-step
 returns-in_default-clause-step c =
-    subst (λ (s : State). Does s (line.Show c.args.name) (Refused (refusal.Name c.args.name)) s) c.self.view_is (show_unbound c.args.name (search rules) c.in_default.ensures)
+    subst (λ (s : State). Does s (line.Show c.args.name) (Refused (refusal.Name c.args.name)) s) c.self.view_is (show_unbound c.args.name (search rules) (bound_rows c.self.inside.names c.args.name ∙ ap rows_of c.in_default.ensures))
 
 pub returns-clause-step : goal.returns-clause-step
 returns-clause-step c =
     subst (λ (s : State). Does s (line.Show c.args.name) (Pair c.in_ok-rows.field-0) s) c.self.view_is
-    (shown c.args.name c.in_ok-rows.field-0 (search rules) (c.in-Some.ensures ∙ ap (λ (rows : List Row). Some rows) (sym c.in_ok-rows.ensures.rows)))
+    (shown c.args.name c.in_ok-rows.field-0 (search rules) (bound_rows c.self.inside.names c.args.name ∙ ap rows_of c.in-Some.ensures ∙ ap (λ (rows : List Row). Some rows) (sym c.in_ok-rows.ensures.rows)))
 
 pub returns-clause-text : goal.returns-clause-text
 returns-clause-text c =

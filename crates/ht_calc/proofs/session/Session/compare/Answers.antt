@@ -1,0 +1,36 @@
+use Rattle.std.proofs.Common.{rules, ◌∙◌, subst, sym, ap}
+use Rattle.ht_script.specs.declared.line.Line.TheVariants as line
+use Rattle.ht_answer.specs.declared.answer.Answer.TheVariants.{Equal, Refused}
+use Rattle.ht_answer.specs.declared.answer.Refusal.TheVariants as refusal
+use Rattle.ht_calc.specs.States.{State}
+use Rattle.ht_calc.specs.Steps.{Does, before_group, compared, first_unbound, second_unbound}
+use Rattle.ht_calc.proofs.NameLaws.{rows_of, bound_rows, bound_of_shape}
+use Rattle.ht_calc.proofs.session.Session.compare.Goals as goal
+
+pub returns-then-is_none-clause-step : goal.returns-then-is_none-clause-step
+returns-then-is_none-clause-step c =
+    subst (λ (s : State). Does s (line.Equal c.args.first c.args.second) (Refused refusal.Group) s) c.self.view_is (before_group (line.Equal c.args.first c.args.second) tt (search rules))
+
+pub returns-in_default-clause-step : goal.returns-in_default-clause-step
+returns-in_default-clause-step c =
+    subst (λ (s : State). Does s (line.Equal c.args.first c.args.second) (Refused (refusal.Name c.args.first)) s) c.self.view_is
+    (first_unbound c.args.first c.args.second (search rules) (bound_rows c.self.inside.names c.args.first ∙ ap rows_of c.in_default.ensures))
+
+pub returns-in_default-get-clause-step : goal.returns-in_default-get-clause-step
+returns-in_default-get-clause-step c =
+    subst (λ (s : State). Does s (line.Equal c.args.first c.args.second) (Refused (refusal.Name c.args.second)) s) c.self.view_is
+    (second_unbound c.args.first c.args.second c.in-Some.element.now.rows (search rules) (bound_rows c.self.inside.names c.args.first ∙ ap rows_of c.in-Some.ensures)
+    (bound_rows c.self.inside.names c.args.second ∙ ap rows_of c.in_default-get.ensures))
+
+pub same-requires : goal.same-requires
+same-requires c =
+    let first = bound_of_shape c.self.inside.shape c.self.inside.names c.args.first c.in-Some.element.now c.self.invariant c.in-Some.ensures in
+    let second = bound_of_shape c.self.inside.shape c.self.inside.names c.args.second c.in-Some-get.other.now c.self.invariant c.in-Some-get.ensures in
+    cc
+
+pub returns-clause-step : goal.returns-clause-step
+returns-clause-step c =
+    subst (λ (s : State). Does s (line.Equal c.args.first c.args.second) (Equal c.same.result) s) c.self.view_is
+    (compared c.args.first c.args.second c.in-Some.element.now.rows c.in-Some-get.other.now.rows c.in-Some.element.now.shape c.same.result
+    (sym (bound_of_shape c.self.inside.shape c.self.inside.names c.args.first c.in-Some.element.now c.self.invariant c.in-Some.ensures))
+    (bound_rows c.self.inside.names c.args.first ∙ ap rows_of c.in-Some.ensures) (bound_rows c.self.inside.names c.args.second ∙ ap rows_of c.in-Some-get.ensures) c.same.ensures.alike)

@@ -1,0 +1,82 @@
+//! How rows move words.
+ghost use Rattle.std.specs.Prelude.{◌≡◌, ◌≤◌, ◌↔◌, true, false, List, ℕ, Some, length, slice_get, IsTrue, IfOk, MatchOption};
+ghost use Rattle.std.specs.List.Sorted.{IsPartitionPoint};
+ghost use Rattle.std.specs.Ordering.{is_le};
+ghost use Rattle.ht_word.specs.declared.word.Word.{Word};
+ghost use Rattle.ht_word.specs.Words.{◌·◌, word_cmp, IsUnder, IsAscending};
+ghost use Rattle.ht_pair.specs.declared.row.Row.{Row};
+ghost use Rattle.ht_pair.specs.Bases.{IsPrefixFree};
+ghost use Rattle.ht_pair.specs.Pairs.{from_words, identity};
+ghost use Rattle.ht_pair.specs.Actions.{Moves};
+
+use crate::{Row, Rows};
+use ht_word::{NoMemory, Shape, Word};
+use std::alloc::Global;
+
+// The rows that move each word to itself: one for each root.
+pub(crate) fn identity_rows(alloc: Global, shape: Shape) -> Result<Rows, NoMemory>
+    ensures { IfOk result (λ rows. rows ≡ identity shape) }
+{
+    let mut rows = Rows::new(alloc);
+    for before in 0..shape.r {
+        let from = Word::new(alloc, before + 1);
+        let to = Word::new(alloc, before + 1);
+        rows.push(Row { from, to })?;
+    }
+    Ok(rows)
+}
+
+// Whether the rows are the same, in the same order. One pass over them.
+pub(crate) fn are_same_rows(rows: &[Row], other: &[Row]) -> bool
+    ensures { IsTrue result ↔ (rows.now ≡ other.now) }
+{
+    if rows.len() != other.len() {
+        return false;
+    }
+    for (place, row) in rows.iter().enumerate() {
+        if !row.same(&other[place]) {
+            return false;
+        }
+    }
+    true
+}
+
+// How many rows, the first ones, have a `from` word that isn't after the word. O(log N) comparisons
+// of words.
+fn count_until(rows: &[Row], word: &Word) -> usize
+    requires { IsAscending (from_words rows.now) }
+    ensures bound { result ≤ length rows.now }
+    ensures point { IsPartitionPoint (λ (row : Row). is_le (word_cmp row.from word.now) ≡ true) (λ (row : Row). is_le (word_cmp row.from word.now) ≡ false) rows.now result }
+{
+    rows.partition_point(
+        |row: &Row| -> bool
+            ensures { result ≡ is_le (word_cmp row.now.from word.entry.now) }
+        { row.from.order(word).is_le() },
+    )
+}
+
+// The place, from 0, of the row whose `from` word is a prefix of the word. Of the `from` words that
+// aren't after the word, only the last can be one. O(log N) comparisons of words.
+pub(crate) fn place_of(rows: &[Row], word: &Word) -> Option<usize>
+    requires prefix_free { IsPrefixFree (from_words rows.now) }
+    requires ascending { IsAscending (from_words rows.now) }
+    ensures { MatchOption result ((v : Word) → ¬ Moves rows.now word.now v) (λ place. (row : Row) × (slice_get rows.now place ≡ Some row) × IsUnder word.now row.from) }
+{
+    let until = count_until(rows, word);
+    if until == 0 {
+        return None;
+    }
+    if !rows[until - 1].from.is_prefix_of(word) {
+        return None;
+    }
+    Some(until - 1)
+}
+
+// The word that the row carries the word to: the row's `to` word with the letters that are left.
+pub(crate) fn move_by(alloc: Global, row: &Row, word: &Word) -> Result<Word, NoMemory>
+    requires { IsUnder word.now row.now.from }
+    ensures { IfOk result (λ moved. (rest : List ℕ) × (word.now ≡ row.now.from · rest) × (moved ≡ row.now.to · rest)) }
+{
+    let rest = &word.letters.as_slice()[row.from.letters.len()..];
+    row.to.joined(alloc, rest)
+}
