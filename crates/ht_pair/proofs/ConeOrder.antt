@@ -89,7 +89,7 @@ before_apart u v h = (
 )
 
 -- of two words one is before the other, or under it
-parted : (u v : Word) → (IsBefore u v ⊎ IsUnder u v) ⊎ (IsBefore v u ⊎ IsUnder v u)
+pub parted : (u v : Word) → (IsBefore u v ⊎ IsUnder u v) ⊎ (IsBefore v u ⊎ IsUnder v u)
 parted u v = elim (below_or (path u) (path v)) [
   | inl h ↦ inl (elim h [ inl b ↦ inl b | inr c ↦ inr (continued u v c.0 c.1) ])
   | inr h ↦ inr (elim h [ inl b ↦ inl b | inr c ↦ inr (continued v u c.0 c.1) ])

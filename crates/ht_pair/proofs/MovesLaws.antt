@@ -62,12 +62,12 @@ turned-turned [] = refl
 turned-turned (row ∷ p) = ap (λ (t : List Row). row ∷ t) (turned-turned p)
 
 -- the `from` words of turned rows are the `to` words
-from_words-turned : (p : List Row) → from_words (turned p) ≡ to_words p
+pub from_words-turned : (p : List Row) → from_words (turned p) ≡ to_words p
 from_words-turned [] = refl
 from_words-turned (row ∷ p) = ap (λ (t : List Word). row.to ∷ t) (from_words-turned p)
 
 -- the `to` words of turned rows are the `from` words
-to_words-turned : (p : List Row) → to_words (turned p) ≡ from_words p
+pub to_words-turned : (p : List Row) → to_words (turned p) ≡ from_words p
 to_words-turned [] = refl
 to_words-turned (row ∷ p) = ap (λ (t : List Word). row.from ∷ t) (to_words-turned p)
 

@@ -8,7 +8,7 @@ use Rattle.ht_word.specs.declared.word.Word.{Word}
 use Rattle.ht_word.proofs.ListLaws.{Contains-nil, Contains-here, Contains-there, Contains-cons_cases, Contains-map, contained_in_map, AllPairs-weaker, AllPairs-from_map, AllPairs-map}
 use Rattle.ht_word.proofs.WordLaws.{length-after, All-from_contains, word_after, word_front, ones, length-ones, ones_letters}
 use Rattle.ht_pair.specs.Actions.{Moves}
-use Rattle.ht_pair.specs.Bases.{AreApart, IsPrefixFree, IsBasis}
+use Rattle.ht_pair.specs.Bases.{AreApart, IsPrefixFree, longest, IsBasis}
 use Rattle.ht_pair.specs.Pairs.{from_words, to_words, IsPair}
 use Rattle.ht_pair.specs.declared.row.Row.{Row}
 use Rattle.ht_pair.proofs.BasisLaws.{longest_least, some_at, front, front_is, length-front, basis_holds, basis_word, basis_from, words_of, words_of_basis, words_of_length}
@@ -147,12 +147,12 @@ rows_free shape F m U basis r =
     (λ x y c e a. apart_carried shape F m x.from y.from x.to y.to (basis_word shape U basis x.from (from_listed F U r x c)) (basis_word shape U basis y.from (from_listed F U r y e)) (r.by x c) (r.by y e) a))
 
 -- the rows move words as F does
-rows_move : (shape : Shape) (F : Word → Word → Type 0) → IsCarrying shape F → (U : List Word) (r : RowsOf F U) (u v : Word) → Moves r.rows u v → F u v
+pub rows_move : (shape : Shape) (F : Word → Word → Type 0) → IsCarrying shape F → (U : List Word) (r : RowsOf F U) (u v : Word) → Moves r.rows u v → F u v
 rows_move shape F m U r u v h = subst₂ F (sym h.from) (sym h.to) (m.extends h.row.from h.row.to h.rest (r.by h.row h.listed))
 
--- the rows from all words of k letters go to a basis
-rows_basis : (shape : Shape) (F : Word → Word → Type 0) → IsPrefixMap shape F → (k : ℕ) (U : List Word) → IsBasis shape U → ((w : Word) → Contains U w → length w.letters ≡ k) → (r : RowsOf F U) → IsBasis shape (to_words r.rows)
-rows_basis shape F m k U basis lengths r = basis_from shape (to_words r.rows)
+-- the rows from a basis of words of at most k letters go to a basis
+pub rows_basis : (shape : Shape) (F : Word → Word → Type 0) → IsPrefixMap shape F → (k : ℕ) (U : List Word) → IsBasis shape U → longest U ≤ k → (r : RowsOf F U) → IsBasis shape (to_words r.rows)
+rows_basis shape F m k U basis short r = basis_from shape (to_words r.rows)
     (All-from_contains (IsWordOf shape) (to_words r.rows) (λ w c.
     let g = contained_in_map (λ (t : Row). t.to) r.rows w c in
     subst (IsWordOf shape) g.2 (m.ahead.word g.0.from g.0.to (basis_word shape U basis g.0.from (from_listed F U r g.0 g.1)) (r.by g.0 g.1))))
@@ -161,7 +161,7 @@ rows_basis shape F m k U basis lengths r = basis_from shape (to_words r.rows)
     (λ v h l.
     let u = m.behind.total v h (omega arith) in
     let hu = m.behind.word v u.0 h u.1 in
-    let s = basis_holds shape U basis u.0 hu (omega (arith, longest_least U k (λ w c. omega (arith, lengths w c)), length-carried shape (back F) m.behind v u.0 k h l u.1)) in
+    let s = basis_holds shape U basis u.0 hu (omega (arith, short, length-carried shape (back F) m.behind v u.0 k h l u.1)) in
     let g = contained_in_map (λ (t : Row). t.from) r.rows s.above (subst (λ (W : List Word). Contains W s.above) (sym r.from_is) s.listed) in
     let moved : F u.0 (g.0.to · s.under.rest) = subst (λ t. F t (g.0.to · s.under.rest)) (ap (λ t. t · s.under.rest) g.2 ∙ sym s.under.is) (m.ahead.extends g.0.from g.0.to s.under.rest (r.by g.0 g.1)) in
     some_at (to_words r.rows) g.0.to v (Contains-map (λ (t : Row). t.to) r.rows g.0 g.1) (record { rest = s.under.rest; is = m.ahead.single u.0 v (g.0.to · s.under.rest) hu u.1 moved }))
@@ -175,6 +175,6 @@ realised shape F m =
     let r = rows_of F U (λ w c. m.ahead.total w (basis_word shape U basis w c) (omega (arith, words_of_length shape k w c))) in
     record {
       rows = r.rows;
-      pair = record { from = subst (IsBasis shape) (sym r.from_is) basis; to = rows_basis shape F m k U basis (words_of_length shape k) r };
+      pair = record { from = subst (IsBasis shape) (sym r.from_is) basis; to = rows_basis shape F m k U basis (longest_least U k (λ w c. omega (arith, words_of_length shape k w c))) r };
       by = rows_move shape F m.ahead U r;
     }

@@ -28,7 +28,7 @@ letters_until [] (a ∷ z) = refl
 letters_until (a ∷ s) z = ap (λ o. is_le (ordering_then o (slice_cmp nat_cmp s (s ++ z)))) (sym (nat_cmp_is a a Equal refl)) ∙ letters_until s z
 
 -- a prefix of a word isn't after it
-prefix_until : (u w : Word) → IsUnder w u → is_le (word_cmp u w) ≡ true
+pub prefix_until : (u w : Word) → IsUnder w u → is_le (word_cmp u w) ≡ true
 prefix_until u w h =
     ap (λ (t : Word). is_le (word_cmp u t)) h.is
     ∙ ap (λ o. is_le (ordering_then o (slice_cmp nat_cmp u.letters (u.letters ++ h.rest)))) (sym (nat_cmp_is u.root u.root Equal refl))

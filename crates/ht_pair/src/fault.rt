@@ -1,4 +1,4 @@
-//! Why rows are no element.
+//! Why rows are no element, and why elements have no product within the limits.
 
 use ht_word::NoMemory;
 use thiserror::Error;
@@ -32,5 +32,28 @@ impl From<NoMemory> for RowsFault {
 
     fn from(_: NoMemory) -> RowsFault {
         RowsFault::NoMemory
+    }
+}
+
+/// Why elements have no product within the limits.
+#[derive(Clone, Copy, Debug, PartialEq, Eq, Error)]
+pub enum OpFault {
+    /// The canonical pair has more than 8,192 rows or a word of more than 1,024 letters: its number
+    /// of rows, and the letters of its longest word.
+    #[error("the element has {rows} rows and words of {letters} letters")]
+    Large { rows: usize, letters: usize },
+    /// No memory was found.
+    #[error("out of memory")]
+    NoMemory,
+}
+
+impl From<NoMemory> for OpFault {
+    ghost use Rattle.std.specs.Prelude.{◌≡◌};
+    ghost use Rattle.ht_pair.specs.declared.fault.OpFault.TheVariants.{NoMemory};
+
+    ghost from_gives = { λ _ fault. fault ≡ NoMemory };
+
+    fn from(_: NoMemory) -> OpFault {
+        OpFault::NoMemory
     }
 }

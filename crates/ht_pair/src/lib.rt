@@ -5,7 +5,7 @@
 //!
 //! - `row`: rows and lists of rows
 //! - `element`: elements, made from rows
-//! - `fault`: why rows are no element
+//! - `fault`: why rows are no element, and why elements have no product
 //! - `reduce`: the reduced rows of a pair
 //! - `moves`: how rows move words
 //! - `pair`: the test whether rows are a pair
@@ -25,6 +25,6 @@ mod side;
 mod tiling;
 
 pub use element::Element;
-pub use fault::RowsFault;
+pub use fault::{OpFault, RowsFault};
 pub use reduce::reduce_rows;
 pub use row::{Row, Rows};

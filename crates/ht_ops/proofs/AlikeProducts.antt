@@ -1,0 +1,48 @@
+-- Pairs that move words as a power or a product does.
+use Rattle.std.proofs.Common.{◌≡◌, List, sym, subst, ◌∙◌, arith, ℤ}
+use Rattle.ht_word.specs.Words.{◌·◌}
+use Rattle.ht_word.specs.declared.shape.Shape.{Shape}
+use Rattle.ht_word.proofs.WordLaws.{after_cancel_right, ones}
+use Rattle.ht_pair.specs.declared.row.Row.{Row}
+use Rattle.ht_pair.specs.Actions.{Moves, Alike, IsCanonicalFor}
+use Rattle.ht_pair.specs.Pairs.{IsPair}
+use Rattle.ht_pair.specs.Elements.{ElementValue}
+use Rattle.ht_pair.specs.Products.{IsProduct, IsPower}
+use Rattle.ht_pair.proofs.MovesLaws.{moves_map}
+use Rattle.ht_pair.proofs.PrefixMapLaws.{long_word, moved_long}
+use Rattle.ht_pair.proofs.StepsLaws.{steps_map}
+
+-- a pair that moves words as a power does is that power
+pub power_alike : (shape : Shape) (p q s : List Row) (k : ℤ) → IsPair shape p → IsPower shape p k q → IsPair shape s → Alike shape s q → IsPower shape p k s
+power_alike shape p q s k pair power pair_s alike = record {
+  pair = pair_s;
+  stepped = λ u v w h f g.
+      let m = (moves_map shape q power.pair).ahead in
+      let z = ones m.bound in
+      let x = moved_long shape (Moves q) m u m.bound h (omega arith) in
+      let long = long_word shape u m.bound h in
+      let first : v · z ≡ x.0 = power.stepped (u · z) (v · z) x.0 long ((steps_map shape p pair k).ahead.extends u v z f) x.1 in
+      let second : w · z ≡ x.0 = alike (u · z) (w · z) x.0 long ((moves_map shape s pair_s).ahead.extends u w z g) x.1 in
+      after_cancel_right v w z (first ∙ sym second);
+}
+
+-- a pair that moves words as a product does is that product
+product_alike : (shape : Shape) (p q t s : List Row) → IsPair shape p → IsPair shape q → IsProduct shape p q t → IsPair shape s → Alike shape s t → IsProduct shape p q s
+product_alike shape p q t s pair_p pair_q product pair_s alike = record {
+  pair = pair_s;
+  composed = λ u v w w' h f g e.
+      let m = (moves_map shape t product.pair).ahead in
+      let z = ones m.bound in
+      let x = moved_long shape (Moves t) m u m.bound h (omega arith) in
+      let long = long_word shape u m.bound h in
+      let first : w · z ≡ x.0 = product.composed (u · z) (v · z) (w · z) x.0 long ((moves_map shape p pair_p).ahead.extends u v z f) ((moves_map shape q pair_q).ahead.extends v w z g) x.1 in
+      let second : w' · z ≡ x.0 = alike (u · z) (w' · z) x.0 long ((moves_map shape s pair_s).ahead.extends u w' z e) x.1 in
+      after_cancel_right w w' z (first ∙ sym second);
+}
+
+-- the canonical pair of a product's rows is the product
+pub product_canonical : (shape given_shape : Shape) (p q rows : List Row) (s : ElementValue) → given_shape ≡ shape → IsPair shape p → IsPair shape q → IsProduct shape p q rows
+    → (s.shape ≡ given_shape) × IsCanonicalFor given_shape s.rows rows → (s.shape ≡ shape) × IsProduct shape p q s.rows
+product_canonical shape given_shape p q rows s shapes pair_p pair_q product h =
+    let c = subst (λ (t : Shape). IsCanonicalFor t s.rows rows) shapes h.1 in
+    (h.0 ∙ shapes, product_alike shape p q rows s.rows pair_p pair_q product c.pair c.alike)

@@ -1,0 +1,238 @@
+-- The blocks of a product, and the pair that they make together.
+use Rattle.std.proofs.Common.{◌≡◌, ℕ, ◌+◌, inl, inr, List, [], ◌∷◌, ◌++◌, length, map, drop, refl, sym, ap, ◌∙◌, subst, subst₂, arith, All, AllPairs, Contains, append_assoc, append-nil, get_or, slice_get, Some}
+use Rattle.std.proofs.lemmas.List.{nil_from_length}
+use Rattle.std.proofs.lemmas.Option.{slice_get_within}
+use Rattle.std.proofs.lemmas.List.Elements.{All-nil, Contains-append_left, Contains-append_right, Contains-append_cases}
+use Rattle.ht_word.specs.declared.word.Word.{Word}
+use Rattle.ht_word.specs.declared.shape.Shape.{Shape}
+use Rattle.ht_word.specs.Words.{◌·◌, IsLetter, IsWordOf, IsUnder, IsUnderSome}
+use Rattle.ht_word.proofs.WordLaws.{after-append, after-nil, after_cancel, under_after, under_both, word_after, word_rest, All-from_contains}
+use Rattle.ht_word.proofs.ListLaws.{Contains-nil, Contains-here, Contains-cons_cases, Contains-map, contained_in_map, AllPairs-nil, AllPairs-cons, AllPairs-append, AllPairs-left, AllPairs-right, AllPairs-across, AllPairs-map, AllPairs-from_map, AllPairs-weaker}
+use Rattle.ht_pair.specs.declared.row.Row.{Row}
+use Rattle.ht_pair.specs.Bases.{AreApart, IsPrefixFree, longest, IsBasis}
+use Rattle.ht_pair.specs.Pairs.{IsPair, from_words, to_words}
+use Rattle.ht_pair.specs.Actions.{Moves}
+use Rattle.ht_pair.specs.Products.{IsProduct}
+use Rattle.ht_pair.proofs.BasisLaws.{some_at, apart_under, basis_holds, basis_word, basis_from}
+use Rattle.ht_pair.proofs.MovesLaws.{moves_map}
+use Rattle.ht_pair.proofs.PrefixMapLaws.{Then, then_map, IsPrefixMap, RowsOf, length-carried, rows_basis, rows_move}
+use Rattle.ht_pair.proofs.ProductLaws.{product_of}
+use Rattle.ht_pair.proofs.RowSearch.{letters_behind}
+use Rattle.ht_ops.proofs.RunLaws.{read_same}
+use Rattle.ht_ops.specs.Blocks.{IsPartOf, IsBlock, HasBlock, IsRun, moved_by, carried_by}
+
+-- ---- one block
+
+-- a row of q that moves all that the row gives
+pub moved_block : (shape : Shape) (q : List Row) (row other : Row) → Contains q other → IsUnder row.to other.from → IsBlock shape q row (moved_by row other ∷ [])
+moved_block shape q row other listed under = record {
+  parts = λ x c. elim (Contains-cons_cases (moved_by row other) [] x c) [
+    | inl e ↦ subst (IsPartOf shape q row) e (record {
+      rest = [];
+      letters = All-nil (IsLetter shape);
+      from = sym (after-nil row.from);
+      moves = record { row = other; rest = drop (length other.from.letters) row.to.letters; listed = listed; from = after-nil row.to ∙ letters_behind other.from row.to under; to = refl };
+    })
+    | inr n ↦ absurd (Contains-nil x n)
+  ];
+  prefix_free = AllPairs-cons AreApart row.from [] (λ i d l. absurd (omega arith)) (AllPairs-nil AreApart);
+  covered = λ z s. some_at (row.from ∷ []) row.from (row.from · z) (Contains-here row.from []) (under_after row.from z);
+}
+
+-- what is under behind one word is so behind another
+swap_under : (u t : Word) (y z : List ℕ) → IsUnder (u · y) (u · z) → IsUnder (t · y) (t · z)
+swap_under u t y z h = record { rest = h.rest; is = ap (λ s. t · s) (after_cancel u y (z ++ h.rest) (h.is ∙ after-append u z h.rest)) ∙ sym (after-append t z h.rest) }
+
+-- two rows carried over are apart as the rows are
+carried_apart : (row x y : Row) → IsUnder x.from row.to → IsUnder y.from row.to → AreApart x.from y.from → AreApart (carried_by row x).from (carried_by row y).from
+carried_apart row x y h g apart =
+    let there : AreApart (row.to · drop (length row.to.letters) x.from.letters) (row.to · drop (length row.to.letters) y.from.letters) = subst₂ AreApart (letters_behind row.to x.from h) (letters_behind row.to y.from g) apart in (
+      λ k. there.0 (swap_under row.from row.to _ _ k),
+      λ k. there.1 (swap_under row.from row.to _ _ k),
+    )
+
+-- a row of q that moves some of what the row gives
+run_part : (shape : Shape) (q : List Row) (row other : Row) → Contains q other → IsWordOf shape other.from → IsUnder other.from row.to → IsPartOf shape q row (carried_by row other)
+run_part shape q row other listed word under =
+    let rest = drop (length row.to.letters) other.from.letters in
+    let is : other.from ≡ row.to · rest = letters_behind row.to other.from under in
+    record {
+      rest = rest;
+      letters = word_rest shape row.to rest (subst (IsWordOf shape) is word);
+      from = refl;
+      moves = record { row = other; rest = []; listed = listed; from = sym is ∙ sym (after-nil other.from); to = sym (after-nil other.to) };
+    }
+
+-- the rows of a run are rows
+run_listed : (q : List Row) (w : Word) (run : List Row) (r : IsRun q w run) (x : Row) → Contains run x → Contains q x
+run_listed q w run r x c = subst (λ (t : List Row). Contains t x) (sym r.are) (Contains-append_right r.before (run ++ r.behind) x (Contains-append_left run r.behind x c))
+
+-- the rows of a run are carried over to words that are apart
+run_free : (q : List Row) (row : Row) (run : List Row) → IsPrefixFree (from_words q) → IsRun q row.to run → IsPrefixFree (from_words (map (carried_by row) run))
+run_free q row run free r =
+    let apart : AllPairs (λ (x : Row) (y : Row). AreApart x.from y.from) run = AllPairs-left (λ (x : Row) (y : Row). AreApart x.from y.from) run r.behind (AllPairs-right (λ (x : Row) (y : Row). AreApart x.from y.from) r.before (run ++ r.behind) (subst (λ (t : List Row). AllPairs (λ (x : Row) (y : Row). AreApart x.from y.from) t) r.are (AllPairs-from_map (λ (t : Row). t.from) AreApart q free))) in
+    AllPairs-map (λ (t : Row). t.from) AreApart (map (carried_by row) run)
+    (AllPairs-map (carried_by row) (λ (x : Row) (y : Row). AreApart x.from y.from) run
+    (AllPairs-weaker (λ (x : Row) (y : Row). AreApart x.from y.from) (λ (x : Row) (y : Row). AreApart (carried_by row x).from (carried_by row y).from) run apart (λ x y c e a. carried_apart row x y (r.under x c) (r.under y e) a)))
+
+-- what q moves of what the row gives is moved by a row that is carried over
+run_covers : (q : List Row) (row : Row) (run : List Row) → IsRun q row.to run → ((v : Word) → ¬ Moves q row.to v) → (z : List ℕ) → IsUnderSome (row.to · z) (from_words q) → IsUnderSome (row.from · z) (from_words (map (carried_by row) run))
+run_covers q row run r none z s =
+    let g = contained_in_map (λ (t : Row). t.from) q s.above s.listed in
+    let other = g.0 in
+    let under : IsUnder (row.to · z) other.from = subst (IsUnder (row.to · z)) (sym g.2) s.under in
+    elim (under_both under (under_after row.to z)) [
+      | inl k ↦ some_at (from_words (map (carried_by row) run)) (carried_by row other).from (row.from · z)
+          (Contains-map (λ (t : Row). t.from) (map (carried_by row) run) (carried_by row other) (Contains-map (carried_by row) run other (r.all other g.1 k)))
+          (swap_under row.to row.from z (drop (length row.to.letters) other.from.letters) (subst (IsUnder (row.to · z)) (letters_behind row.to other.from k) under))
+      | inr k ↦ absurd (none (other.to · k.rest) (record { row = other; rest = k.rest; listed = g.1; from = k.is; to = refl }))
+    ]
+
+-- the rows below what the row gives, where no row is above it
+pub run_block : (shape : Shape) (q : List Row) (row : Row) (run : List Row) → IsBasis shape (from_words q) → IsRun q row.to run → ((v : Word) → ¬ Moves q row.to v) → IsBlock shape q row (map (carried_by row) run)
+run_block shape q row run basis r none = record {
+  parts = λ x c.
+      let g = contained_in_map (carried_by row) run x c in
+      let listed = run_listed q row.to run r g.0 g.1 in
+      subst (IsPartOf shape q row) g.2 (run_part shape q row g.0 listed (basis_word shape (from_words q) basis g.0.from (Contains-map (λ (t : Row). t.from) q g.0 listed)) (r.under g.0 g.1));
+  prefix_free = run_free q row run basis.prefix_free r;
+  covered = run_covers q row run r none;
+}
+
+-- the block of one row is added
+pub moved_added : (shape : Shape) (q given : List Row) (row other x : Row) (place : ℕ) (old new : List Row) → q ≡ given → other ≡ get_or q place other
+    → ((r : Row) × (slice_get given place ≡ Some r) × IsUnder row.to r.from) → x ≡ moved_by row other → new ≡ old ++ x ∷ [] → HasBlock shape q row old new
+moved_added shape q given row other x place old new same is found x_is new_is =
+    let read : slice_get q place ≡ Some found.0 = subst (λ (t : List Row). slice_get t place ≡ Some found.0) (sym same) found.1 in
+    let inside = slice_get_within q place found.0 read in
+    let one : found.0 ≡ other = read_same q place other found.0 inside is read in
+    record {
+      block = moved_by row other ∷ [];
+      is_block = moved_block shape q row other (place, inside, sym is) (subst (λ (t : Row). IsUnder row.to t.from) one found.2);
+      added = new_is ∙ ap (λ (t : Row). old ++ t ∷ []) x_is;
+    }
+
+-- the block of a run is added
+pub run_added : (shape : Shape) (q given : List Row) (row : Row) (run old new : List Row) → q ≡ given → IsBasis shape (from_words q) → IsRun q row.to run → ((v : Word) → ¬ Moves given row.to v)
+    → new ≡ old ++ map (carried_by row) run → HasBlock shape q row old new
+run_added shape q given row run old new same basis r none is = record {
+  block = map (carried_by row) run;
+  is_block = run_block shape q row run basis r (λ v m. none v (subst (λ (t : List Row). Moves t row.to v) same m));
+  added = is;
+}
+
+-- ---- all blocks
+
+-- a row that a row of the list gives
+pub record IsPartOfSome (shape : Shape) (q done : List Row) (x : Row) : Type 0 where
+  pub row : Row
+  pub listed : Contains done row
+  pub part : IsPartOf shape q row x
+
+-- the blocks of the rows of a list
+pub record AreBlocks (shape : Shape) (q done rows : List Row) : Type 0 where
+  pub parts : (x : Row) → Contains rows x → IsPartOfSome shape q done x
+  pub apart : AllPairs (λ (x : Row) (y : Row). AreApart x.from y.from) rows
+  pub covered : (row : Row) → Contains done row → (z : List ℕ) → IsUnderSome (row.to · z) (from_words q) → IsUnderSome (row.from · z) (from_words rows)
+
+-- the blocks of the rows before the rest
+pub record AreBlocksUpTo (shape : Shape) (p q rows rest : List Row) : Type 0 where
+  pub done : List Row
+  pub are : p ≡ done ++ rest
+  pub blocks : AreBlocks shape q done rows
+
+-- a word under some of the rows is under some of more rows
+some_more : (rows more : List Row) (u : Word) → ((x : Row) → Contains rows x → Contains more x) → IsUnderSome u (from_words rows) → IsUnderSome u (from_words more)
+some_more rows more u within s =
+    let g = contained_in_map (λ (t : Row). t.from) rows s.above s.listed in
+    some_at (from_words more) g.0.from u (Contains-map (λ (t : Row). t.from) more g.0 (within g.0 g.1)) (subst (IsUnder u) (sym g.2) s.under)
+
+-- a part of a row is under it
+part_under : (shape : Shape) (q : List Row) (row x : Row) → IsPartOf shape q row x → IsUnder x.from row.from
+part_under shape q row x h = record { rest = h.rest; is = h.from }
+
+-- one more block behind the others
+block_added : (shape : Shape) (q done rows block : List Row) (row : Row) → ((x : Row) → Contains done x → AreApart x.from row.from) → AreBlocks shape q done rows → IsBlock shape q row block → AreBlocks shape q (done ++ row ∷ []) (rows ++ block)
+block_added shape q done rows block row apart h b = record {
+  parts = λ x c. elim (Contains-append_cases rows block x c) [
+    | inl k ↦ (let s = h.parts x k in record { row = s.row; listed = Contains-append_left done (row ∷ []) s.row s.listed; part = s.part })
+    | inr k ↦ record { row = row; listed = Contains-append_right done (row ∷ []) row (Contains-here row []); part = b.parts x k }
+  ];
+  apart = AllPairs-append (λ (x : Row) (y : Row). AreApart x.from y.from) rows block h.apart (AllPairs-from_map (λ (t : Row). t.from) AreApart block b.prefix_free)
+      (λ x y c e. let s = h.parts x c in apart_under (apart s.row s.listed) (part_under shape q s.row x s.part) (part_under shape q row y (b.parts y e)));
+  covered = λ r c z s. elim (Contains-append_cases done (row ∷ []) r c) [
+    | inl k ↦ some_more rows (rows ++ block) (r.from · z) (λ x e. Contains-append_left rows block x e) (h.covered r k z s)
+    | inr k ↦ elim (Contains-cons_cases row [] r k) [
+      | inl e ↦ subst (λ (t : Row). IsUnderSome (t.from · z) (from_words (rows ++ block))) e
+          (some_more block (rows ++ block) (row.from · z) (λ x e. Contains-append_right rows block x e) (b.covered z (subst (λ (t : Row). IsUnderSome (t.to · z) (from_words q)) (sym e) s)))
+      | inr n ↦ absurd (Contains-nil r n)
+    ]
+  ];
+}
+
+-- the next row's block comes behind the others
+pub one_more_block : (shape : Shape) (p q rows rest new : List Row) (row : Row) → IsPrefixFree (from_words p) → AreBlocksUpTo shape p q rows (row ∷ rest) → HasBlock shape q row rows new → AreBlocksUpTo shape p q new rest
+one_more_block shape p q rows rest new row free h step = record {
+  done = h.done ++ row ∷ [];
+  are = h.are ∙ sym (append_assoc h.done (row ∷ []) rest);
+  blocks = subst (AreBlocks shape q (h.done ++ row ∷ [])) (sym step.added) (block_added shape q h.done rows step.block row apart h.blocks step.is_block);
+}
+  where
+    apart : (x : Row) → Contains h.done x → AreApart x.from row.from
+    apart x c = AllPairs-across (λ (x : Row) (y : Row). AreApart x.from y.from) h.done (row ∷ rest)
+        (subst (λ (t : List Row). AllPairs (λ (x : Row) (y : Row). AreApart x.from y.from) t) h.are (AllPairs-from_map (λ (t : Row). t.from) AreApart p free)) x row c (Contains-here row rest)
+
+-- ---- the product
+
+-- the rows of the blocks move words as p and then q do
+rows_then : (shape : Shape) (p q rows : List Row) → AreBlocks shape q p rows → RowsOf (Then (Moves p) (Moves q)) (from_words rows)
+rows_then shape p q rows h = record {
+  rows = rows;
+  from_is = refl;
+  by = λ x c.
+      let s = h.parts x c in
+      record { middle = s.row.to · s.part.rest; first = record { row = s.row; rest = s.part.rest; listed = s.listed; from = s.part.from; to = refl }; second = s.part.moves };
+}
+
+-- their `from` words are of the shape
+rows_words : (shape : Shape) (p q rows : List Row) → IsBasis shape (from_words p) → AreBlocks shape q p rows → All (IsWordOf shape) (from_words rows)
+rows_words shape p q rows basis h = All-from_contains (IsWordOf shape) (from_words rows) (λ w c.
+    let g = contained_in_map (λ (t : Row). t.from) rows w c in
+    let s = h.parts g.0 g.1 in
+    subst (IsWordOf shape) (sym s.part.from ∙ g.2) (word_after shape s.row.from s.part.rest (basis_word shape (from_words p) basis s.row.from (Contains-map (λ (t : Row). t.from) p s.row s.listed)) s.part.letters))
+
+-- and a basis
+from_basis : (shape : Shape) (p q rows : List Row) → IsPair shape p → IsPair shape q → AreBlocks shape q p rows → IsBasis shape (from_words rows)
+from_basis shape p q rows pair_p pair_q h =
+    let m = (moves_map shape p pair_p).ahead in
+    basis_from shape (from_words rows) (rows_words shape p q rows pair_p.from h) (AllPairs-map (λ (t : Row). t.from) AreApart rows h.apart)
+    (m.bound + longest (from_words q))
+    (λ u word long.
+    let v = m.total u word (omega arith) in
+    let s = basis_holds shape (from_words q) pair_q.from v.0 (m.word u v.0 word v.1) (length-carried shape (Moves p) m u v.0 (longest (from_words q)) word long v.1) in
+    subst (λ t. IsUnderSome t (from_words rows)) (sym v.1.from) (h.covered v.1.row v.1.listed v.1.rest (subst (λ t. IsUnderSome t (from_words q)) v.1.to s)))
+
+-- the blocks of all rows of p are the product
+pub blocks_product : (shape : Shape) (p q rows : List Row) → IsPair shape p → IsPair shape q → AreBlocks shape q p rows → IsProduct shape p q rows
+unfolding rows_then
+blocks_product shape p q rows pair_p pair_q h =
+    let F = Then (Moves p) (Moves q) in
+    let m : IsPrefixMap shape F = then_map shape (Moves p) (Moves q) (moves_map shape p pair_p) (moves_map shape q pair_q) in
+    let r = rows_then shape p q rows h in
+    let from = from_basis shape p q rows pair_p pair_q h in
+    product_of shape p q pair_p pair_q (record {
+      rows = rows;
+      pair = record { from = from; to = rows_basis shape F m (longest (from_words rows)) (from_words rows) from (omega arith) r };
+      by = rows_move shape F m.ahead (from_words rows) r;
+    })
+
+-- where no rows are left, the blocks are the product
+pub all_blocks : (shape : Shape) (p q rows items : List Row) → length items ≡ 0 → IsPair shape p → IsPair shape q → AreBlocksUpTo shape p q rows items → IsProduct shape p q rows
+all_blocks shape p q rows items none pair_p pair_q h =
+    let all : h.done ≡ p = sym (append-nil h.done) ∙ ap (λ (t : List Row). h.done ++ t) (sym (nil_from_length items none)) ∙ sym h.are in
+    blocks_product shape p q rows pair_p pair_q (subst (λ (t : List Row). AreBlocks shape q t rows) all h.blocks)
+
+-- the `to` word of the next row is of the shape
+pub next_word : (shape : Shape) (p q rows rest : List Row) (row : Row) → IsBasis shape (to_words p) → AreBlocksUpTo shape p q rows (row ∷ rest) → IsWordOf shape row.to
+next_word shape p q rows rest row basis h =
+    basis_word shape (to_words p) basis row.to (Contains-map (λ (t : Row). t.to) p row (subst (λ (t : List Row). Contains t row) (sym h.are) (Contains-append_right h.done (row ∷ rest) row (Contains-here row rest))))

@@ -1,0 +1,5 @@
+pub mod Faults
+pub mod AlikeProducts
+pub mod Turning
+pub mod RunLaws
+pub mod BlockLaws

@@ -1,0 +1,8 @@
+use Rattle.std.proofs.Common.{rules}
+use Rattle.std.proofs.lemmas.Fn.{always_returns_same}
+use Rattle.ht_ops.proofs.RunLaws.{is_before, parted_before}
+use Rattle.ht_ops.proofs.run.count_before.Goals as goal
+
+pub returns-clause-point : goal.returns-clause-point
+returns-clause-point c =
+    c.partition_point.ensures.partitioned (is_before c.args.word.now) (always_returns_same _ _ _ (λ a r q k. search rules)) (parted_before c.args.rows.now c.args.word.now c.requires)

@@ -1,0 +1,8 @@
+use Rattle.std.proofs.lemmas.List.{take_rest}
+use Rattle.ht_ops.proofs.RunLaws.{run_at}
+use Rattle.ht_ops.proofs.run.run_under.Goals as goal
+
+pub returns : goal.returns
+returns c =
+    run_at c.args.rows.now _ c.args.word.now c.count_before.result c.count_under.result (take_rest c.args.rows.now c.count_before.result) c.requires.prefix_free c.requires.ascending
+    c.count_before.ensures.bound c.count_before.ensures.point c.count_under.ensures.bound c.count_under.ensures.under c.count_under.ensures.end

@@ -1,0 +1,55 @@
+-- The rows of a product, block by block: a block has the rows that one row of the first pair gives.
+--
+--     IsPartOf shape q row x       x moves words under row.from as the row and then q do
+--     IsBlock shape q row block    such rows, apart, and one wherever q moves what the row gives
+--     HasBlock shape q row old new    a block is added behind rows
+--     IsRun p w run                the rows whose `from` words are under w, which stand together
+--     IsPairFault fault            what may be wrong with rows that are a pair: they are too large, or memory is wanting
+--     moved_by row other           the row, where the `from` word of the other is a prefix of its `to` word, and then the other
+--     carried_by row other         the row, where its `to` word is a prefix of the `from` word of the other, and then the other
+use Rattle.std.specs.Prelude.{◌≡◌, ⊤, List, ◌++◌, ℕ, length, drop, Contains}
+use Rattle.ht_word.specs.declared.word.Word.{Word}
+use Rattle.ht_word.specs.declared.shape.Shape.{Shape}
+use Rattle.ht_word.specs.Words.{◌·◌, IsLetters, IsUnder, IsUnderSome}
+use Rattle.ht_pair.specs.declared.row.Row.{Row}
+use Rattle.ht_pair.specs.declared.fault.RowsFault.{RowsFault}
+use Rattle.ht_pair.specs.declared.fault.RowsFault.TheVariants.{Foreign, FromNotBasis, ToNotBasis, Large, NoMemory}
+use Rattle.ht_pair.specs.Actions.{Moves}
+use Rattle.ht_pair.specs.Bases.{IsPrefixFree}
+use Rattle.ht_pair.specs.Pairs.{from_words}
+
+pub record IsPartOf (shape : Shape) (q : List Row) (row x : Row) : Type 0 where
+  pub rest : List ℕ
+  pub letters : IsLetters shape rest
+  pub from : x.from ≡ row.from · rest
+  pub moves : Moves q (row.to · rest) x.to
+
+pub record IsBlock (shape : Shape) (q : List Row) (row : Row) (block : List Row) : Type 0 where
+  pub parts : (x : Row) → Contains block x → IsPartOf shape q row x
+  pub prefix_free : IsPrefixFree (from_words block)
+  pub covered : (z : List ℕ) → IsUnderSome (row.to · z) (from_words q) → IsUnderSome (row.from · z) (from_words block)
+
+pub record HasBlock (shape : Shape) (q : List Row) (row : Row) (old new : List Row) : Type 0 where
+  pub block : List Row
+  pub is_block : IsBlock shape q row block
+  pub added : new ≡ old ++ block
+
+pub record IsRun (p : List Row) (w : Word) (run : List Row) : Type 0 where
+  pub before : List Row
+  pub behind : List Row
+  pub are : p ≡ before ++ (run ++ behind)
+  pub under : (x : Row) → Contains run x → IsUnder x.from w
+  pub all : (x : Row) → Contains p x → IsUnder x.from w → Contains run x
+
+abbrev pub moved_by : Row → Row → Row
+moved_by row other = record { from = row.from; to = other.to · drop (length other.from.letters) row.to.letters }
+
+abbrev pub carried_by : Row → Row → Row
+carried_by row other = record { from = row.from · drop (length row.to.letters) other.from.letters; to = other.to }
+
+abbrev pub IsPairFault : RowsFault → Type 0
+IsPairFault (Foreign place) = ⊥
+IsPairFault FromNotBasis = ⊥
+IsPairFault ToNotBasis = ⊥
+IsPairFault (Large rows letters) = ⊤
+IsPairFault NoMemory = ⊤

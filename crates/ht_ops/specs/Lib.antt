@@ -1,0 +1,2 @@
+pub use Rattle.ht_pair.specs.Products
+pub mod Blocks

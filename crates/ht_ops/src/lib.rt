@@ -1,0 +1,18 @@
+//! Products and inverses of elements of the group G(n, r). Elements act on the right: in a product
+//! the first element comes first.
+//!
+//! `product(alloc, &a, &inverse(alloc, &a)?)?` is the identity.
+//!
+//! - `inverses`: inverses
+//! - `products`: products
+//! - `block`: the rows of a product that one row of the first element gives
+//! - `run`: the rows below a word
+#![tactic(auto)]
+
+mod block;
+mod inverses;
+mod products;
+mod run;
+
+pub use inverses::inverse;
+pub use products::product;

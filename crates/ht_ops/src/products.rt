@@ -1,0 +1,57 @@
+//! Products.
+ghost use Rattle.std.specs.Prelude.{◌≡◌, ℕ, List, IfOk, OnOk, IsErrOf};
+ghost use Rattle.ht_pair.specs.declared.row.Row.{Row};
+ghost use Rattle.ht_pair.specs.Pairs.{IsPair};
+ghost use Rattle.ht_pair.specs.Sizes.{IsLarge};
+ghost use Rattle.ht_pair.specs.Products.{IsProduct};
+ghost use Rattle.ht_pair.specs.declared.fault.OpFault.TheVariants as op_fault;
+ghost use Rattle.ht_pair.specs.declared.fault.RowsFault.TheVariants as rows_fault;
+ghost use Rattle.ht_ops.specs.Blocks.{IsPairFault};
+
+use crate::block::add_block;
+use ht_pair::{Element, OpFault, Rows, RowsFault};
+use ht_word::NoMemory;
+use std::alloc::Global;
+
+/// The product: the first element, and then the second. `Large` comes where its canonical pair is
+/// larger than an element may be. From M and N rows, which it copies, it makes at most M + N rows by
+/// O(M log N + N) comparisons of words, and sorts these by O((M + N) log(M + N)) more.
+pub fn product(alloc: Global, a: &Element, b: &Element) -> Result<Element, OpFault>
+    requires { a.now.shape ≡ b.now.shape }
+    ensures product { IfOk result (λ s. (s.shape ≡ a.now.shape) × IsProduct a.now.shape a.now.rows b.now.rows s.rows) }
+    ensures large { (rows letters : ℕ) → IsErrOf result (op_fault.Large rows letters) → (s : List Row) × IsProduct a.now.shape a.now.rows b.now.rows s × IsLarge a.now.shape s rows letters }
+{
+    let rows = product_rows(alloc, a, b)?;
+    match Element::of_rows(alloc, a.shape(), rows) {
+        Ok(element) => Ok(element),
+        Err(fault) => Err(op_fault(fault)),
+    }
+}
+
+// Rows of the product, in any order and not reduced: a block of rows for each row of the first
+// element.
+fn product_rows(alloc: Global, a: &Element, b: &Element) -> Result<Rows, NoMemory>
+    requires { a.now.shape ≡ b.now.shape }
+    ensures product { IfOk result (IsProduct a.now.shape a.now.rows b.now.rows) }
+    ensures first { OnOk result (IsPair a.now.shape a.now.rows) }
+    ensures second { OnOk result (IsPair a.now.shape b.now.rows) }
+{
+    let others = b.rows(alloc)?;
+    let mut rows = Rows::new(alloc);
+    for row in a.rows(alloc)?.into_vec() {
+        add_block(alloc, &mut rows, &row, b, others.as_slice())?;
+    }
+    Ok(rows)
+}
+
+// The rows of a product are a pair, so they are too large or memory is wanting.
+fn op_fault(fault: RowsFault) -> OpFault
+    requires { IsPairFault fault }
+    ensures { (rows letters : ℕ) → result ≡ op_fault.Large rows letters → fault ≡ rows_fault.Large rows letters }
+{
+    match fault {
+        RowsFault::Large { rows, letters } => OpFault::Large { rows, letters },
+        RowsFault::NoMemory => OpFault::NoMemory,
+        RowsFault::Foreign(_) | RowsFault::FromNotBasis | RowsFault::ToNotBasis => unreachable!(),
+    }
+}
