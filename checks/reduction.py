@@ -3,65 +3,11 @@ words of one length, and their canonical pair is checked to be reduced, in order
 
 usage: reduction.py PROGRAM
 """
-import itertools
 import random
 import subprocess
 import sys
 
-
-def text(word):
-    root, letters = word
-    return f"x{root}" + ("." + "".join(map(str, letters)) if letters else "")
-
-
-def rows_text(rows):
-    return ";".join(f"{text(u)}>{text(v)}" for u, v in rows)
-
-
-def parse(line):
-    def word(s):
-        root, _, letters = s[1:].partition(".")
-        return int(root), tuple(map(int, letters))
-
-    return [tuple(map(word, row.split(">"))) for row in line.split(";")]
-
-
-def under(u, v):
-    return u[0] == v[0] and u[1][: len(v[1])] == v[1]
-
-
-def of_shape(n, r, w):
-    return 1 <= w[0] <= r and all(1 <= c <= n for c in w[1])
-
-
-def all_words(n, r, length):
-    return [(i, z) for i in range(1, r + 1) for z in itertools.product(range(1, n + 1), repeat=length)]
-
-
-def is_basis(n, r, words):
-    """Each word as long as the longest one is under exactly one place of the list."""
-    longest = max((len(w[1]) for w in words), default=0)
-    return all(sum(under(u, w) for w in words) == 1 for u in all_words(n, r, longest))
-
-
-def moved(rows, u):
-    for s, t in rows:
-        if under(u, s):
-            return t[0], t[1] + u[1][len(s[1]):]
-    return None
-
-
-def is_canonical(n, r, rows, given):
-    """A reduced pair in order that moves each long word as the given rows do."""
-    froms, tos = [s for s, _ in rows], [t for _, t in rows]
-    if not (is_basis(n, r, froms) and is_basis(n, r, tos) and froms == sorted(froms)):
-        return False
-    table = set(rows)
-    for (root, z), (toot, y) in rows:
-        if z and y and all(((root, z[:-1] + (c,)), (toot, y[:-1] + (c,))) in table for c in range(1, n + 1)):
-            return False
-    length = max(len(s[1]) for s, _ in rows + given)
-    return all(moved(rows, u) == moved(given, u) for u in all_words(n, r, length))
+from common.words import all_words, behind, is_basis, is_canonical, longest, moved, of_shape, parse, rows_text, some_basis
 
 
 def answer(n, r, rows):
@@ -76,23 +22,24 @@ def answer(n, r, rows):
     return None
 
 
-def basis(rng, n, r, size):
-    words = [(i, ()) for i in range(1, r + 1)]
-    for _ in range(size):
-        u = words.pop(rng.randrange(len(words)))
-        words += [(u[0], u[1] + (c,)) for c in range(1, n + 1)]
-    return words
+def is_right(n, r, got, rows):
+    """A canonical pair that moves each long word as the rows do."""
+    if got.startswith("refused"):
+        return False
+    canonical = parse(got)
+    length = longest([s for s, _ in canonical + rows])
+    return is_canonical(n, r, canonical) and all(moved(canonical, u) == moved(rows, u) for u in all_words(n, r, length))
 
 
 def some_rows(rng, n, r):
     size = rng.randrange(4)
-    froms, tos = basis(rng, n, r, size), basis(rng, n, r, size)
+    froms, tos = some_basis(rng, n, r, size), some_basis(rng, n, r, size)
     if rng.random() < 0.5:
         rng.shuffle(tos)
     rows = list(zip(froms, tos))
     for _ in range(rng.randrange(3)):
         u, v = rows.pop(rng.randrange(len(rows)))
-        rows += [((u[0], u[1] + (c,)), (v[0], v[1] + (c,))) for c in range(1, n + 1)]
+        rows += [(behind(u, (c,)), behind(v, (c,))) for c in range(1, n + 1)]
     rng.shuffle(rows)
     fate = rng.random()
     place = rng.randrange(len(rows))
@@ -102,7 +49,7 @@ def some_rows(rng, n, r):
     elif fate < 0.2:
         rows.append(rows[place])
     elif fate < 0.3:
-        rows[place] = (u, (v[0], v[1] + (rng.randrange(1, n + 2),)))
+        rows[place] = (u, behind(v, (rng.randrange(1, n + 2),)))
     elif fate < 0.4:
         rows[place] = ((u[0] + 1, u[1]), v)
     elif fate < 0.5 and u[1]:
@@ -121,8 +68,7 @@ def main():
         for rows, got in zip(cases, answers):
             tried += 1
             refusal = answer(n, r, rows)
-            right = got == refusal if refusal else not got.startswith("refused") and is_canonical(n, r, parse(got), rows)
-            if not right:
+            if not (got == refusal if refusal else is_right(n, r, got, rows)):
                 wrong += 1
                 print(f"reduction: group {n} {r}, {rows_text(rows)} is answered {got}")
         if len(answers) != len(cases) + 1:

@@ -14,8 +14,6 @@ mod bindings;
 mod script;
 mod session;
 mod status;
-#[cfg(test)]
-mod tests;
 
 pub use script::run;
 pub use session::Session;

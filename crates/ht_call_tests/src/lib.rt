@@ -1,0 +1,13 @@
+//! Tests of the calls below the calculator: what no clause says of them.
+//!
+//! - `memory`: calls succeed where there is memory
+//! - `limits`: elements of the greatest size, and just past it
+//! - `operations`: products and inverses
+#![tactic(auto)]
+
+#[cfg(test)]
+mod limits;
+#[cfg(test)]
+mod memory;
+#[cfg(test)]
+mod operations;
