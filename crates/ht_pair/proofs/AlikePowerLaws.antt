@@ -38,7 +38,7 @@ turned_alike shape p q pair_p pair_q alike = λ w v v' h f g.
     after_cancel_right v v' z (mq.behind.single (w · z) (v · z) (v' · z) (long_word shape w mq.ahead.bound h) (subst (λ t. Moves q (v · z) t) (sym same) y.1) (mq.ahead.extends v' w z down'))
 
 -- k steps of alike pairs lead to the same word
-steps_alike : (shape : Shape) (p q : List Row) → IsPair shape p → IsPair shape q → Alike shape p q → (k : ℤ) (u x v : Word) → IsWordOf shape u → Steps p k u x → Steps q k u v → x ≡ v
+pub steps_alike : (shape : Shape) (p q : List Row) → IsPair shape p → IsPair shape q → Alike shape p q → (k : ℤ) (u x v : Word) → IsWordOf shape u → Steps p k u x → Steps q k u v → x ≡ v
 steps_alike shape p q pair_p pair_q alike (pos k) = ahead_alike shape p q pair_p alike k
 steps_alike shape p q pair_p pair_q alike (negsuc k) = ahead_alike shape (turned p) (turned q) (turned_pair shape p pair_p) (turned_alike shape p q pair_p pair_q alike) (suc k)
 

@@ -32,8 +32,9 @@ pub mod QuasinormalLaws
 pub mod ExistenceLaws
 pub mod AlikePowerLaws
 pub mod SizeLaws
-pub mod PowerLaws
 pub mod TurnedLaws
+pub mod PowerLaws
+pub mod LargePowerLaws
 pub mod KindLaws
 pub mod ReachLaws
 pub mod PartLaws

@@ -9,13 +9,13 @@ use Rattle.ht_pair.specs.declared.row.Row.{Row}
 use Rattle.ht_pair.proofs.MovesLaws.{turned-turned}
 
 -- k steps of the turned pair are -k steps
-steps_of_turned : (p : List Row) (k : ℤ) (u w : Word) → Steps (turned p) k u w → Steps p (neg_ℤ k) u w
+pub steps_of_turned : (p : List Row) (k : ℤ) (u w : Word) → Steps (turned p) k u w → Steps p (neg_ℤ k) u w
 steps_of_turned p (pos zero) u w s = s
 steps_of_turned p (pos (suc k)) u w s = s
 steps_of_turned p (negsuc k) u w s = subst (λ (q : List Row). StepsAhead q (suc k) u w) (turned-turned p) s
 
 -- -k steps are k steps of the turned pair
-steps_to_turned : (p : List Row) (k : ℤ) (u w : Word) → Steps p (neg_ℤ k) u w → Steps (turned p) k u w
+pub steps_to_turned : (p : List Row) (k : ℤ) (u w : Word) → Steps p (neg_ℤ k) u w → Steps (turned p) k u w
 steps_to_turned p (pos zero) u w s = s
 steps_to_turned p (pos (suc k)) u w s = s
 steps_to_turned p (negsuc k) u w s = subst (λ (q : List Row). StepsAhead q (suc k) u w) (sym (turned-turned p)) s

@@ -5,6 +5,7 @@ ghost use Rattle.ht_word.specs.Words.{IsUnder};
 ghost use Rattle.ht_pair.specs.declared.row.Row.{Row};
 ghost use Rattle.ht_pair.specs.Pairs.{IsPair, identity, longest_of};
 ghost use Rattle.ht_pair.specs.Actions.{Alike, IsCanonical, IsCanonicalFor, Moves};
+ghost use Rattle.ht_pair.specs.Elements.{IsElement};
 ghost use Rattle.ht_pair.specs.RowsFaults.{IsRowsFault};
 
 use crate::moves::{are_same_rows, identity_rows, move_by, place_of};
@@ -84,6 +85,13 @@ impl Element {
             shape: self.shape,
             rows,
         })
+    }
+
+    /// What each element is: a canonical pair within the limits. Does nothing.
+    pub fn keeps_limits(&self)
+        ensures { IsElement self.now.shape self.now.rows }
+    {
+        let _ = &self.shape;
     }
 
     /// The shape of the words.
