@@ -1,15 +1,18 @@
 -- Pairs that move words as a power or a product does.
-use Rattle.std.proofs.Common.{◌≡◌, List, sym, subst, ◌∙◌, arith, ℤ}
+use Rattle.std.proofs.Common.{◌≡◌, ◌≤◌, ℕ, List, length, sym, subst, ◌∙◌, arith, ℤ}
 use Rattle.ht_word.specs.Words.{◌·◌}
 use Rattle.ht_word.specs.declared.shape.Shape.{Shape}
 use Rattle.ht_word.proofs.WordLaws.{after_cancel_right, ones}
 use Rattle.ht_pair.specs.declared.row.Row.{Row}
 use Rattle.ht_pair.specs.Actions.{Moves, Alike, IsCanonicalFor}
-use Rattle.ht_pair.specs.Pairs.{IsPair}
+use Rattle.ht_pair.specs.Pairs.{IsPair, longest_of}
 use Rattle.ht_pair.specs.Elements.{ElementValue}
 use Rattle.ht_pair.specs.Products.{IsProduct, IsPower}
+use Rattle.ht_pair.specs.Sizes.{IsLarge}
 use Rattle.ht_pair.proofs.MovesLaws.{moves_map}
 use Rattle.ht_pair.proofs.PrefixMapLaws.{long_word, moved_long}
+use Rattle.ht_pair.proofs.ProductLaws.{product_once}
+use Rattle.ht_pair.proofs.SizeLaws.{alike_not_large}
 use Rattle.ht_pair.proofs.StepsLaws.{steps_map}
 
 -- a pair that moves words as a power does is that power
@@ -46,3 +49,12 @@ pub product_canonical : (shape given_shape : Shape) (p q rows : List Row) (s : E
 product_canonical shape given_shape p q rows s shapes pair_p pair_q product h =
     let c = subst (λ (t : Shape). IsCanonicalFor t s.rows rows) shapes h.1 in
     (h.0 ∙ shapes, product_alike shape p q rows s.rows pair_p pair_q product c.pair c.alike)
+
+-- no pair that is the product is large where that canonical pair is within the limits
+pub product_not_large : (shape given_shape : Shape) (p q rows : List Row) (e : ElementValue) → given_shape ≡ shape → IsPair shape p → IsPair shape q → IsProduct shape p q rows
+    → (e.shape ≡ given_shape) × IsCanonicalFor given_shape e.rows rows → (length e.rows ≤ 8192) × (longest_of e.rows ≤ 1024)
+    → (s : List Row) (i j : ℕ) → IsProduct shape p q s → ¬ IsLarge shape s i j
+product_not_large shape given_shape p q rows e shapes pair_p pair_q product h small s i j other =
+    let c = subst (λ (t : Shape). IsCanonicalFor t e.rows rows) shapes h.1 in
+    let own = product_canonical shape given_shape p q rows e shapes pair_p pair_q product h in
+    alike_not_large shape e.rows s i j (record { canonical = c.form; few_rows = small.0; short_words = small.1 }) other.pair (product_once shape p q s e.rows pair_p pair_q other own.1)

@@ -3,3 +3,4 @@ pub mod AlikeProducts
 pub mod Turning
 pub mod RunLaws
 pub mod BlockLaws
+pub mod PowerChains

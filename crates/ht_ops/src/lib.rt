@@ -1,18 +1,21 @@
-//! Products and inverses of elements of the group G(n, r). Elements act on the right: in a product
-//! the first element comes first.
+//! Products, inverses and powers of elements of the group G(n, r). Elements act on the right: in a
+//! product the first element comes first.
 //!
-//! `product(alloc, &a, &inverse(alloc, &a)?)?` is the identity.
+//! `product(alloc, &a, &power(alloc, &a, -1)?)?` is the identity.
 //!
 //! - `inverses`: inverses
 //! - `products`: products
+//! - `powers`: powers
 //! - `block`: the rows of a product that one row of the first element gives
 //! - `run`: the rows below a word
 #![tactic(auto)]
 
 mod block;
 mod inverses;
+mod powers;
 mod products;
 mod run;
 
 pub use inverses::inverse;
+pub use powers::power;
 pub use products::product;

@@ -19,6 +19,7 @@ use std::alloc::Global;
 pub fn product(alloc: Global, a: &Element, b: &Element) -> Result<Element, OpFault>
     requires { a.now.shape ≡ b.now.shape }
     ensures product { IfOk result (λ s. (s.shape ≡ a.now.shape) × IsProduct a.now.shape a.now.rows b.now.rows s.rows) }
+    ensures kept { OnOk result ((s : List Row) (rows letters : ℕ) → IsProduct a.now.shape a.now.rows b.now.rows s → ¬ IsLarge a.now.shape s rows letters) }
     ensures large { (rows letters : ℕ) → IsErrOf result (op_fault.Large rows letters) → (s : List Row) × IsProduct a.now.shape a.now.rows b.now.rows s × IsLarge a.now.shape s rows letters }
 {
     let rows = product_rows(alloc, a, b)?;
