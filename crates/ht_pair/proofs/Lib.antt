@@ -35,6 +35,7 @@ pub mod SizeLaws
 pub mod TurnedLaws
 pub mod PowerLaws
 pub mod LargePowerLaws
+pub mod ConjugatePowerLaws
 pub mod KindLaws
 pub mod ReachLaws
 pub mod PartLaws

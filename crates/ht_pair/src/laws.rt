@@ -69,9 +69,10 @@ pub fn powers_add_up()
     ensures back { (shape : Shape) (p : List Row) (k : ℤ) (u v : Word) → IsPair shape p → Carries shape p k u v → Carries shape p (neg_ℤ k) v u }
 {}
 
-/// Each two pairs have a product, and the turned pair is the inverse.
+/// Each two pairs have a product, and just one, and the turned pair is the inverse.
 pub fn products_and_inverses_exist()
     ensures product { (shape : Shape) (p q : List Row) → IsPair shape p → IsPair shape q → (s : List Row) × IsProduct shape p q s }
+    ensures one { (shape : Shape) (p q s t : List Row) → IsPair shape p → IsPair shape q → IsProduct shape p q s → IsProduct shape p q t → Alike shape s t }
     ensures inverse { (shape : Shape) (p : List Row) → IsPair shape p → IsPower shape p (neg_ℤ (pos 1)) (turned p) }
 {}
 
@@ -101,11 +102,19 @@ pub fn an_element_has_one_size()
     ensures alike { (shape : Shape) (p q : List Row) (rows letters : ℕ) → IsPair shape p → IsPair shape q → Alike shape p q → IsLarge shape p rows letters → IsLarge shape q rows letters }
 {}
 
-/// Each power is an element, and just one; the power 0 is the identity.
+/// Each power is an element, and just one; the power 0 is the identity, the product of two powers
+/// is the power by their sum, and the k-th power of the inverse is the power -k.
 pub fn powers_are_elements()
     ensures some { (shape : Shape) (p : List Row) (k : ℤ) → IsPair shape p → (s : List Row) × IsPower shape p k s }
     ensures one { (shape : Shape) (p s t : List Row) (k : ℤ) → IsPair shape p → IsPower shape p k s → IsPower shape p k t → Alike shape s t }
     ensures none { (shape : Shape) (p s : List Row) → IsPower shape p (pos 0) s → Alike shape s (identity shape) }
+    ensures sum { (shape : Shape) (p s t q : List Row) (j k : ℤ) → IsPair shape p → IsPower shape p j s → IsPower shape p k t → IsProduct shape s t q → IsPower shape p (j +ℤ k) q }
+    ensures inverse { (shape : Shape) (p q s : List Row) (k : ℤ) → IsPair shape p → IsPower shape p (neg_ℤ (pos 1)) q → IsPower shape q k s ↔ IsPower shape p (neg_ℤ k) s }
+{}
+
+/// Conjugating passes to powers: what conjugates a into b conjugates each power of a into that of b.
+pub fn conjugating_passes_to_powers()
+    ensures { (shape : Shape) (h a b s t : List Row) (k : ℤ) → IsPair shape a → IsPair shape b → Conjugates shape h a b → IsPower shape a k s → IsPower shape b k t → Conjugates shape h s t }
 {}
 
 /// Power conjugacy is symmetric, and no exponent in it is 0.

@@ -1,4 +1,4 @@
-use Rattle.ht_pair.proofs.PowerLaws.{power_exists, power_once, zero_power}
+use Rattle.ht_pair.proofs.PowerLaws.{power_exists, power_once, zero_power, power_add, power_of_inverse, power_to_inverse}
 use Rattle.ht_pair.proofs.laws.powers_are_elements.Goals as goal
 
 pub returns-clause-some : goal.returns-clause-some
@@ -9,3 +9,9 @@ returns-clause-one c = power_once
 
 pub returns-clause-none : goal.returns-clause-none
 returns-clause-none c = zero_power
+
+pub returns-clause-sum : goal.returns-clause-sum
+returns-clause-sum c = power_add
+
+pub returns-clause-inverse : goal.returns-clause-inverse
+returns-clause-inverse c = λ shape p q s k pair inverse. (power_of_inverse shape p q s k pair inverse, power_to_inverse shape p q s k pair inverse)
