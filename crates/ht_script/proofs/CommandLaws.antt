@@ -4,22 +4,21 @@ use Rattle.std.specs.Prelude.{codes}
 use Rattle.std.specs.Cmp.Lexicographic.{pointwise, bytes_decides}
 use Rattle.std.proofs.lemmas.Bool.{cases_lt}
 use Rattle.std.proofs.lemmas.Fmt.{decimal_digit}
-use Rattle.std.proofs.lemmas.List.Elements.{All-nil, All-cons, All-from_recursion}
+use Rattle.std.proofs.lemmas.List.Elements.{All-from_recursion}
 use Rattle.ht_text.specs.Fronts.{IsFront, IsLongestFront}
-use Rattle.ht_word.specs.Words.{root_word}
-use Rattle.ht_pair.specs.declared.row.Row.{Row}
-use Rattle.ht_text.specs.Texts.{IsDigitLetter, HasText, HasRowText, row_text}
 use Rattle.ht_script.specs.declared.command.Command.{Command}
 use Rattle.ht_script.specs.declared.command.Command.TheVariants as command
 use Rattle.ht_script.specs.declared.command.Slot.{Slot}
-use Rattle.ht_script.specs.declared.command.Slot.TheVariants.{Number, Name, Equals, Rows}
-use Rattle.ht_script.specs.Tokens.{Is, IsToken, IsSpaced, IsSpan, IsApart}
-use Rattle.ht_script.specs.Slots.{keyword, IsSlot, IsBehind, IsKeyword}
-use Rattle.ht_script.proofs.TokenLaws.{AreTokens}
-use Rattle.ht_script.proofs.FrontLaws.{longest_span, longest_same, front_map}
-use Rattle.ht_script.proofs.GrammarLaws.{number_token, name_token, equals_token, rows_token}
+use Rattle.ht_script.specs.declared.command.Slot.TheVariants.{Number, Name, Equals}
+use Rattle.ht_script.specs.declared.ending.Ending.{Ending}
+use Rattle.ht_script.specs.Tokens.{Is, IsToken, IsSpaced, IsApart}
+use Rattle.ht_script.specs.Slots.{keyword, IsSlot, IsEnding, IsBehind, IsKeyword}
+use Rattle.ht_script.proofs.TokenLaws.{AreTokens, spaced_before, one_spaced}
+use Rattle.ht_script.proofs.FrontLaws.{longest_same, front_map}
+use Rattle.ht_script.proofs.GrammarLaws.{number_token, name_token, equals_token}
 use Rattle.ht_script.proofs.NameLaws.{name_a}
 use Rattle.ht_script.proofs.SpacedFronts.{Fits, TakesSpace}
+use Rattle.ht_script.proofs.EndingLaws.{ending_before, some_ending}
 
 -- every command
 abbrev pub commands : List Command
@@ -91,82 +90,48 @@ slot_token : (slot : Slot) (t : List ℕ) → IsSlot slot t → IsToken t
 slot_token Number t h = number_token t h.0 h.1
 slot_token Name t h = name_token t h
 slot_token Equals t h = equals_token t h
-slot_token Rows t h = rows_token t h.0 h.1
-
-abbrev identity_row : Row
-identity_row = record { from = root_word 1; to = root_word 1 }
-
-identity_text : HasRowText identity_row
-identity_text = record { from = root_text; to = root_text }
-  where
-    root_text : HasText (root_word 1)
-    root_text = record { root_low = omega arith; root_high = omega arith; letters = All-nil IsDigitLetter }
-
-identity_is : codes "x1>x1" ≡ row_text identity_row
-identity_is = ap (λ d. (((codes "x" ++ d) ++ []) ++ codes ">") ++ ((codes "x" ++ d) ++ [])) (sym (decimal_digit 1 (omega arith)))
 
 -- each slot has some token
 some_slot : (slot : Slot) → (t : List ℕ) × IsSlot slot t
 some_slot Number = (codes "1", (1, record { small = omega arith; is = sym (decimal_digit 1 (omega arith)) }))
 some_slot Name = (codes "a", name_a)
 some_slot Equals = (codes "=", refl)
-some_slot Rows = (codes "x1>x1", (identity_row ∷ [], record { some = λ none. cc; have_texts = All-cons HasRowText identity_row [] identity_text (All-nil HasRowText); is = identity_is }))
+
+-- a token of the slot, and behind it tokens of the slots and the ending
+abbrev pub SlotFits : Ending → Slot → List Slot → List ℕ → List ℕ → Type 0
+SlotFits e slot slots token rest = IsSlot slot token × IsBehind e slots rest
 
 -- one more space may stand before what stands behind a word
-pub space_before : (slots : List Slot) (bytes : List ℕ) → IsBehind slots bytes → IsBehind slots (32 ∷ bytes)
-space_before [] bytes h = All-cons (λ b. b ≡ 32) 32 bytes refl h
-space_before (slot ∷ slots) bytes s = record {
-  before = 32 ∷ s.before;
-  token = s.token;
-  rest = s.rest;
-  spaces = All-cons (λ b. b ≡ 32) 32 s.before refl s.spaces;
-  apart = s.apart;
-  fits = s.fits;
-  is = ap (λ t. 32 ∷ t) s.is;
-}
+pub space_before : (e : Ending) (slots : List Slot) (bytes : List ℕ) → IsBehind e slots bytes → IsBehind e slots (32 ∷ bytes)
+space_before e [] bytes h = ending_before e bytes h
+space_before e (slot ∷ slots) bytes h = spaced_before (SlotFits e slot slots) bytes h
 
 -- something may stand behind each word
-pub some_behind : (slots : List Slot) → (bytes : List ℕ) × IsBehind slots bytes × IsApart bytes
-some_behind [] = ([], All-nil (λ b. b ≡ 32), tt)
-some_behind (slot ∷ slots) =
+pub some_behind : (e : Ending) (slots : List Slot) → (bytes : List ℕ) × IsBehind e slots bytes × IsApart bytes
+some_behind e [] = some_ending e
+some_behind e (slot ∷ slots) =
     let token = some_slot slot in
-    let rest = some_behind slots in (
-      32 ∷ (token.0 ++ rest.0),
-      record {
-        before = 32 ∷ [];
-        token = token.0;
-        rest = rest.0;
-        spaces = All-cons (λ b. b ≡ 32) 32 [] refl (All-nil (λ b. b ≡ 32));
-        apart = rest.2;
-        fits = (token.1, rest.1);
-        is = refl;
-      },
-      refl,
-    )
+    let rest = some_behind e slots in (32 ∷ (token.0 ++ rest.0), one_spaced (SlotFits e slot slots) token.0 rest.0 (token.1, rest.1) rest.2, refl)
 
--- a token of the slot, and behind it tokens of the slots
-abbrev pub SlotFits : Slot → List Slot → List ℕ → List ℕ → Type 0
-SlotFits slot slots token rest = IsSlot slot token × IsBehind slots rest
+pub slot_tokens : (e : Ending) (slot : Slot) (slots : List Slot) → AreTokens (SlotFits e slot slots)
+slot_tokens e slot slots = λ t r h. slot_token slot t h.0
 
-pub slot_tokens : (slot : Slot) (slots : List Slot) → AreTokens (SlotFits slot slots)
-slot_tokens slot slots = λ t r h. slot_token slot t h.0
+pub slot_takes_space : (e : Ending) (slot : Slot) (slots : List Slot) → TakesSpace (SlotFits e slot slots)
+slot_takes_space e slot slots = λ t r h. (h.0, space_before e slots r h.1)
 
-pub slot_takes_space : (slot : Slot) (slots : List Slot) → TakesSpace (SlotFits slot slots)
-slot_takes_space slot slots = λ t r h. (h.0, space_before slots r h.1)
+pub slot_fits : (e : Ending) (slot : Slot) (slots : List Slot) (t : List ℕ) → IsSlot slot t → Fits (SlotFits e slot slots) t
+slot_fits e slot slots t h = let rest = some_behind e slots in (rest.0, (h, rest.1))
 
-pub slot_fits : (slot : Slot) (slots : List Slot) (t : List ℕ) → IsSlot slot t → Fits (SlotFits slot slots) t
-slot_fits slot slots t h = let rest = some_behind slots in (rest.0, (h, rest.1))
-
-pub some_fits : (slot : Slot) (slots : List Slot) → (t : List ℕ) × Fits (SlotFits slot slots) t
-some_fits slot slots = let token = some_slot slot in (token.0, slot_fits slot slots token.0 token.1)
+pub some_fits : (e : Ending) (slot : Slot) (slots : List Slot) → (t : List ℕ) × Fits (SlotFits e slot slots) t
+some_fits e slot slots = let token = some_slot slot in (token.0, slot_fits e slot slots token.0 token.1)
 
 -- the longest front of a token of the slot, whatever stands behind it
-pub longest_slot : (slot : Slot) (slots : List Slot) (t : List ℕ) (k : ℕ) → IsLongestFront (IsSlot slot) t k → IsLongestFront (Fits (SlotFits slot slots)) t k
-longest_slot slot slots t k h = longest_same (IsSlot slot) (Fits (SlotFits slot slots)) t k (λ u f. slot_fits slot slots u f) (λ u f. f.1.0) h
+pub longest_slot : (e : Ending) (slot : Slot) (slots : List Slot) (t : List ℕ) (k : ℕ) → IsLongestFront (IsSlot slot) t k → IsLongestFront (Fits (SlotFits e slot slots)) t k
+longest_slot e slot slots t k h = longest_same (IsSlot slot) (Fits (SlotFits e slot slots)) t k (λ u f. slot_fits e slot slots u f) (λ u f. f.1.0) h
 
 -- the longest front of what stands behind a token of the slot
-pub longest_later : (slot : Slot) (slots : List Slot) (t rest : List ℕ) (k : ℕ) → IsSlot slot t → IsLongestFront (IsBehind slots) rest k → IsLongestFront (SlotFits slot slots t) rest k
-longest_later slot slots t rest k is_slot h = longest_same (IsBehind slots) (SlotFits slot slots t) rest k (λ u f. (is_slot, f)) (λ u f. f.1) h
+pub longest_later : (e : Ending) (slot : Slot) (slots : List Slot) (t rest : List ℕ) (k : ℕ) → IsSlot slot t → IsLongestFront (IsBehind e slots) rest k → IsLongestFront (SlotFits e slot slots t) rest k
+longest_later e slot slots t rest k is_slot h = longest_same (IsBehind e slots) (SlotFits e slot slots t) rest k (λ u f. (is_slot, f)) (λ u f. f.1) h
 
 -- the first of the commands that has the word
 abbrev find_command : List Command → List ℕ → Option Command
@@ -203,11 +168,11 @@ keyword_token command.Let = record { some = omega arith; no_space = All-from_rec
 keyword_token command.Show = record { some = omega arith; no_space = All-from_recursion (λ b. b ≢ 32) (keyword command.Show) (search rules) }
 keyword_token command.Equal = record { some = omega arith; no_space = All-from_recursion (λ b. b ≢ 32) (keyword command.Equal) (search rules) }
 
--- without slots there are spaces
-pub longest_no_slots : (slots : List Slot) (bytes : List ℕ) (k : ℕ) → length slots ≡ 0 → IsSpan (λ b. b ≡ 32) bytes k → IsLongestFront (IsBehind slots) bytes k
-longest_no_slots [] bytes k none h = longest_span (λ b. b ≡ 32) bytes k h
-longest_no_slots (slot ∷ slots) bytes k none h = absurd (omega arith)
+-- without slots there is the ending
+pub longest_no_slots : (e : Ending) (slots : List Slot) (bytes : List ℕ) (k : ℕ) → length slots ≡ 0 → IsLongestFront (IsEnding e) bytes k → IsLongestFront (IsBehind e slots) bytes k
+longest_no_slots e [] bytes k none h = h
+longest_no_slots e (slot ∷ slots) bytes k none h = absurd (omega arith)
 
 -- of slots, the first and the later ones
-pub by_first_slot : (slots : List Slot) (slot : Slot) (later : List Slot) (bytes : List ℕ) (k : ℕ) → slots ≡ slot ∷ later → IsLongestFront (IsSpaced (SlotFits slot later)) bytes k → IsLongestFront (IsBehind slots) bytes k
-by_first_slot slots slot later bytes k e h = subst (λ s. IsLongestFront (IsBehind s) bytes k) (sym e) h
+pub by_first_slot : (e : Ending) (slots : List Slot) (slot : Slot) (later : List Slot) (bytes : List ℕ) (k : ℕ) → slots ≡ slot ∷ later → IsLongestFront (IsSpaced (SlotFits e slot later)) bytes k → IsLongestFront (IsBehind e slots) bytes k
+by_first_slot e slots slot later bytes k is h = subst (λ s. IsLongestFront (IsBehind e s) bytes k) (sym is) h

@@ -1,5 +1,5 @@
 -- Longest fronts, put together.
-use Rattle.std.proofs.Common.{◌≡◌, ◌≢◌, ◌<◌, ◌≤◌, ◌+◌, ◌-◌, ℕ, inl, inr, List, [], ◌++◌, length, take, drop, get_or, All, sym, ap, ◌∙◌, subst, arith, append-nil, length-append, take-append-drop}
+use Rattle.std.proofs.Common.{◌≡◌, ◌≢◌, ◌<◌, ◌≤◌, ◌+◌, ◌-◌, ℕ, max, ◌⊎◌, inl, inr, List, [], ◌++◌, length, take, drop, get_or, All, sym, ap, ◌∙◌, subst, arith, append-nil, length-append, take-append-drop}
 use Rattle.std.proofs.Math.Seq.{take-append-add, take-length}
 use Rattle.std.proofs.lemmas.Bool.{cases_lt}
 use Rattle.std.proofs.lemmas.List.{take-append-le, get_or_append_left, get_or-take, length-take-le}
@@ -16,6 +16,36 @@ longest_same P Q bytes k f g h = record {
   front = front_map P Q (take k bytes) f h.front;
   longest = λ j l front. h.longest j l (front_map Q P (take j bytes) g front);
 }
+
+-- two kinds of texts that have the same fronts of the bytes
+pub longest_alike : (P Q : List ℕ → Type 0) (bytes : List ℕ) (k : ℕ) → ((j : ℕ) → j ≤ length bytes → IsFront P (take j bytes) → IsFront Q (take j bytes))
+    → ((j : ℕ) → j ≤ length bytes → IsFront Q (take j bytes) → IsFront P (take j bytes)) → IsLongestFront P bytes k → IsLongestFront Q bytes k
+longest_alike P Q bytes k f g h = record {
+  within = h.within;
+  front = f k h.within h.front;
+  longest = λ j l front. h.longest j l (g j l front);
+}
+
+-- texts of one kind or another
+pub longest_either : (P Q : List ℕ → Type 0) (bytes : List ℕ) (k l : ℕ) → IsLongestFront P bytes k → IsLongestFront Q bytes l → IsLongestFront (λ t. P t ⊎ Q t) bytes (max k l)
+longest_either P Q bytes k l g h = elim (cases_lt k l) [
+  | inl less ↦ (let most : l ≡ max k l = omega arith in subst (λ n. IsLongestFront (λ t. P t ⊎ Q t) bytes n) most (record {
+    within = h.within;
+    front = front_map Q (λ t. P t ⊎ Q t) (take l bytes) (λ t q. inr q) h.front;
+    longest = λ j low f. elim f.text [
+      | inl p ↦ (let few = g.longest j low (record { rest = f.rest; text = p }) in omega arith)
+      | inr q ↦ h.longest j low (record { rest = f.rest; text = q })
+    ];
+  }))
+  | inr more ↦ (let most : k ≡ max k l = omega arith in subst (λ n. IsLongestFront (λ t. P t ⊎ Q t) bytes n) most (record {
+    within = g.within;
+    front = front_map P (λ t. P t ⊎ Q t) (take k bytes) (λ t p. inl p) g.front;
+    longest = λ j low f. elim f.text [
+      | inl p ↦ g.longest j low (record { rest = f.rest; text = p })
+      | inr q ↦ (let few = h.longest j low (record { rest = f.rest; text = q }) in omega arith)
+    ];
+  }))
+]
 
 -- bytes that are a front as a whole
 pub longest_whole : (P : List ℕ → Type 0) (bytes : List ℕ) → IsFront P bytes → IsLongestFront P bytes (length bytes)

@@ -1,5 +1,5 @@
 -- The tokens of the grammar are tokens: some bytes and no space.
-use Rattle.std.proofs.Common.{◌≢◌, ◌<◌, ℕ, List, [], ◌∷◌, ◌++◌, length, All, refl, sym, subst, arith, get_or}
+use Rattle.std.proofs.Common.{◌≡◌, ◌≢◌, ◌<◌, ℕ, List, [], ◌∷◌, ◌++◌, length, All, refl, sym, ◌∙◌, subst, arith, get_or}
 use Rattle.std.specs.Prelude.{codes, decimal, map}
 use Rattle.std.specs.List.{AllByRecursion}
 use Rattle.std.proofs.lemmas.List.Elements.{All-cons, All-nil, All-map, recursion_from_All}
@@ -16,6 +16,15 @@ number_token t n h = record { some = (form_of_num t n h).some; no_space = num_fr
 
 name_byte : (b : ℕ) → IsNameByte b → b ≢ 32
 name_byte b h = λ e. grind arith
+
+name_byte_raised : (b : ℕ) → IsNameByte b → b ≢ 94
+name_byte_raised b h = λ e. grind arith
+
+-- no name has a `^`
+pub name_free : (t : List ℕ) → IsName t → IsFree 94 t
+name_free t h =
+    subst (IsFree 94) (sym h.is)
+    (All-cons (λ b. b ≢ 94) h.first h.others (λ e. let high = h.is_start.1 in let low = h.is_start.0 in omega arith) (λ k d l. name_byte_raised (get_or h.others k d) (h.are_bytes k d l)))
 
 pub name_token : (t : List ℕ) → IsName t → IsToken t
 name_token t h = subst IsToken (sym h.is) (record {
@@ -59,6 +68,15 @@ rows_token t rows h = subst IsToken (sym h.is) (record {
   some = some_bytes rows h.some;
   no_space = rows_no_space rows (recursion_from_All HasRowText rows h.have_texts);
 })
+
+rows_begin : (rows : List Row) → rows ≢ [] → (rest : List ℕ) × (rows_text rows ≡ 120 ∷ rest)
+rows_begin [] some = absurd (some refl)
+rows_begin (row ∷ []) some = (_, refl)
+rows_begin (row ∷ next ∷ rows) some = (_, refl)
+
+-- rows begin with `x`
+pub rows_first : (t : List ℕ) (rows : List Row) → IsRows t rows → (rest : List ℕ) × (t ≡ 120 ∷ rest)
+rows_first t rows h = let first = rows_begin rows h.some in (first.0, h.is ∙ first.1)
 
 pub equals_token : (t : List ℕ) → Is (codes "=") t → IsToken t
 equals_token t e = subst IsToken (sym e) (record { some = omega arith; no_space = free_one 32 61 (λ r. absurd (omega arith)) })

@@ -1,3 +1,4 @@
+pub mod IntegerTexts
 pub mod TokenLaws
 pub mod FrontLaws
 pub mod GrammarLaws
@@ -6,3 +7,7 @@ pub mod NameLaws
 pub mod CommandLaws
 pub mod LineLaws
 pub mod OneLine
+pub mod FactorTexts
+pub mod FactorFronts
+pub mod FactorLists
+pub mod EndingLaws

@@ -1,20 +1,24 @@
 -- Lines by the word that they begin with.
-use Rattle.std.proofs.Common.{◌≡◌, ◌≢◌, ◌<◌, ◌≤◌, ◌+◌, ◌-◌, ℕ, ◌⊎◌, inl, inr, List, [], ◌∷◌, ◌++◌, length, take, drop, All, Option, Some, None, MatchOption, Bor, refl, sym, ap, ◌∙◌, subst, arith, append_assoc, append-nil, length-append, take-append-drop}
+use Rattle.std.proofs.Common.{◌≡◌, ◌≢◌, ◌<◌, ◌≤◌, ◌+◌, ◌-◌, ℕ, ◌⊎◌, inl, inr, List, [], ◌∷◌, ◌++◌, length, take, drop, All, Option, Some, None, MatchOption, Result, Ok, Err, IfOk, Bor, refl, sym, ap, ◌∙◌, subst, arith, append_assoc, append-nil, length-append, take-append-drop}
 use Rattle.std.specs.Prelude.{codes}
 use Rattle.std.specs.List.{AllByRecursion}
 use Rattle.std.proofs.lemmas.Bool.{cases_lt}
 use Rattle.std.proofs.lemmas.List.{drop_more, take_all, take_at, nil_from_length, length-take-le}
 use Rattle.std.proofs.lemmas.List.Elements.{recursion_from_All, All-from_recursion, All-take}
 use Rattle.ht_pair.specs.declared.row.Row.{Row}
-use Rattle.ht_text.specs.Fronts.{IsFront, IsLongestFront}
+use Rattle.ht_text.specs.Fronts.{IsFront, IsLongestFront, IsRowsText}
 use Rattle.ht_script.specs.declared.command.Command.{Command}
 use Rattle.ht_script.specs.declared.command.Command.TheVariants as command
 use Rattle.ht_script.specs.declared.line.Line.{Line}
-use Rattle.ht_script.specs.declared.line.Line.TheVariants.{Blank, Group, Reduce, LetRows, Show, Equal}
+use Rattle.ht_script.specs.declared.line.Line.TheVariants.{Blank, Group, Reduce, LetRows, LetProduct, Show, Equal}
+use Rattle.ht_script.specs.declared.ending.Ending.TheVariants as ending
 use Rattle.ht_script.specs.Tokens.{◌▸◌, Is, IsSpaces, IsToken, IsSpaced, IsSpan, IsFirstToken}
-use Rattle.ht_script.specs.Lines.{IsMarked, IsComment, IsNumber, AreRows, IsNamed, IsLine, IsLineText}
-use Rattle.ht_script.specs.Slots.{keyword, slots_of, IsBehind, IsKeyword, IsUnmarked}
-use Rattle.ht_script.proofs.TokenLaws.{AreTokens, BeginsToken, begins, strip, not_spaces, refit, first_fits}
+use Rattle.ht_script.specs.Lines.{IsMarked, IsComment, IsNumber, AreRows, IsNamed, IsLine, IsNoLine, IsLineText}
+use Rattle.ht_script.specs.Slots.{keyword, slots_of, ending_of, IsEnding, IsTaken, Completes, Reads, IsKeyword, IsUnmarked}
+use Rattle.ht_script.specs.Names.{IsName}
+use Rattle.ht_script.specs.Factors.{AreFactors}
+use Rattle.ht_script.proofs.TokenLaws.{AreTokens, BeginsToken, begins, strip, not_spaces, refit, first_fits, both}
+use Rattle.ht_script.proofs.GrammarLaws.{name_token, equals_token}
 use Rattle.ht_script.proofs.FrontLaws.{front_map, moved, longest_whole, longest_behind, longest_span, longest_same}
 use Rattle.ht_script.proofs.SpacedFronts.{Fits, TakesSpace, spaces_front, longest_in_token, longest_past_token}
 use Rattle.ht_script.proofs.CommandLaws.{some_behind, space_before, keyword_token, same_command, no_mark}
@@ -23,7 +27,7 @@ use Rattle.ht_script.proofs.CommandLaws.{some_behind, space_before, keyword_toke
 pub record CommandFits (token rest : List ℕ) : Type 0 where
   pub of : Command
   pub word : token ≡ keyword of
-  pub behind : IsBehind (slots_of of) rest
+  pub behind : IsTaken of rest
 
 abbrev pub IsCommandText : List ℕ → Type 0
 IsCommandText bytes = IsSpaced CommandFits bytes
@@ -32,54 +36,80 @@ pub command_tokens : AreTokens CommandFits
 command_tokens = λ t r h. subst IsToken (sym h.word) (keyword_token h.of)
 
 pub command_takes_space : TakesSpace CommandFits
-command_takes_space = λ t r h. record { of = h.of; word = h.word; behind = space_before (slots_of h.of) r h.behind }
+command_takes_space = λ t r h. record { of = h.of; word = h.word; behind = space_before (ending_of h.of) (slots_of h.of) r h.behind }
 
 pub word_fits : (t : List ℕ) → IsKeyword t → Fits CommandFits t
-word_fits t h = let rest = some_behind (slots_of h.0) in (rest.0, record { of = h.0; word = h.1; behind = rest.1 })
+word_fits t h = let rest = some_behind (ending_of h.0) (slots_of h.0) in (rest.0, record { of = h.0; word = h.1; behind = rest.1 })
 
 pub fits_word : (t : List ℕ) → Fits CommandFits t → IsKeyword t
 fits_word t h = (h.1.of, h.1.word)
 
 -- what stands behind each word, with its values
-pub group_behind : (rest : List ℕ) → IsBehind (slots_of command.Group) rest → (n : ℕ) × (r : ℕ) × (IsNumber n ▸ IsNumber r ▸ IsSpaces) rest
+pub group_behind : (rest : List ℕ) → IsTaken command.Group rest → (n : ℕ) × (r : ℕ) × (IsNumber n ▸ IsNumber r ▸ IsSpaces) rest
 group_behind rest b =
     let n = b.fits.0 in
     let r = b.fits.1.fits.0 in
     (n.0, r.0, refit _ (λ t u. IsNumber n.0 t × (IsNumber r.0 ▸ IsSpaces) u) rest b (n.1, refit _ (λ t u. IsNumber r.0 t × IsSpaces u) b.rest b.fits.1 (r.1, b.fits.1.fits.1)))
 
-pub reduce_behind : (rest : List ℕ) → IsBehind (slots_of command.Reduce) rest → (rows : List Row) × (AreRows rows ▸ IsSpaces) rest
-reduce_behind rest b = let rows = b.fits.0 in (rows.0, refit _ (λ t u. AreRows rows.0 t × IsSpaces u) rest b (rows.1, b.fits.1))
+pub rows_behind : (rest : List ℕ) → (IsRowsText ▸ IsSpaces) rest → (rows : List Row) × (AreRows rows ▸ IsSpaces) rest
+rows_behind rest b = let rows = b.fits.0 in (rows.0, refit _ (λ t u. AreRows rows.0 t × IsSpaces u) rest b (rows.1, b.fits.1))
 
-pub let_behind : (rest : List ℕ) → IsBehind (slots_of command.Let) rest → (name : List ℕ) × (rows : List Row) × (IsNamed name ▸ Is (codes "=") ▸ AreRows rows ▸ IsSpaces) rest
-let_behind rest b =
-    let equals = b.fits.1 in
-    let last = reduce_behind equals.rest equals.fits.1 in (
-      b.token,
-      last.0,
-      refit _ (λ t u. IsNamed b.token t × (Is (codes "=") ▸ AreRows last.0 ▸ IsSpaces) u) rest b (
-        (b.fits.0, refl),
-        refit _ (λ t u. Is (codes "=") t × (AreRows last.0 ▸ IsSpaces) u) b.rest equals (equals.fits.0, last.1),
-      ),
-    )
-
-pub show_behind : (rest : List ℕ) → IsBehind (slots_of command.Show) rest → (name : List ℕ) × (IsNamed name ▸ IsSpaces) rest
+pub show_behind : (rest : List ℕ) → IsTaken command.Show rest → (name : List ℕ) × (IsNamed name ▸ IsSpaces) rest
 show_behind rest b = (b.token, refit _ (λ t u. IsNamed b.token t × IsSpaces u) rest b ((b.fits.0, refl), b.fits.1))
 
-pub equal_behind : (rest : List ℕ) → IsBehind (slots_of command.Equal) rest → (first : List ℕ) × (second : List ℕ) × (IsNamed first ▸ IsNamed second ▸ IsSpaces) rest
+pub equal_behind : (rest : List ℕ) → IsTaken command.Equal rest → (first : List ℕ) × (second : List ℕ) × (IsNamed first ▸ IsNamed second ▸ IsSpaces) rest
 equal_behind rest b = let last = show_behind b.rest b.fits.1 in (b.token, last.0, refit _ (λ t u. IsNamed b.token t × (IsNamed last.0 ▸ IsSpaces) u) rest b ((b.fits.0, refl), last.1))
 
+-- a name, `=` and behind it what R holds of
+pub named_behind : (R : List ℕ → Type 0) (bytes : List ℕ) → (IsName ▸ Is (codes "=") ▸ R) bytes → (name : List ℕ) × (rest : List ℕ) × (IsNamed name ▸ Is (codes "=") ▸ Is rest) bytes × R rest
+named_behind R bytes b = (
+  b.token,
+  b.fits.1.rest,
+  refit _ (λ t u. IsNamed b.token t × (Is (codes "=") ▸ Is b.fits.1.rest) u) bytes b
+      ((b.fits.0, refl), refit _ (λ t u. Is (codes "=") t × Is b.fits.1.rest u) b.rest b.fits.1 (b.fits.1.fits.0, refl)),
+  b.fits.1.fits.1,
+)
+
+pub with_behind : (R : List ℕ → Type 0) (name rest bytes : List ℕ) → (IsNamed name ▸ Is (codes "=") ▸ Is rest) bytes → R rest → (IsNamed name ▸ Is (codes "=") ▸ R) bytes
+with_behind R name rest bytes b h =
+    refit _ (λ t u. IsNamed name t × (Is (codes "=") ▸ R) u) bytes b (b.fits.0, refit _ (λ t u. Is (codes "=") t × R u) b.rest b.fits.1 (b.fits.1.fits.0, subst R (sym b.fits.1.fits.1) h))
+
+-- and R holds of it however it was found
+pub behind_equals : (R : List ℕ → Type 0) (name rest bytes : List ℕ) → (IsNamed name ▸ Is (codes "=") ▸ Is rest) bytes → (IsName ▸ Is (codes "=") ▸ R) bytes → R rest
+behind_equals R name rest bytes g h =
+    let names = both (IsNamed name) (Is (codes "=") ▸ Is rest) IsName (Is (codes "=") ▸ R) bytes (λ t k. name_token t k.0) name_token g h in
+    let equals = both (Is (codes "=")) (Is rest) (Is (codes "=")) R names.rest equals_token equals_token names.behind_first names.behind_second in
+    subst R equals.behind_first equals.behind_second
+
+let_behind : (rest : List ℕ) → IsTaken command.Let rest → (line : Line) × Completes command.Let line rest
+let_behind rest b =
+    let v = named_behind (IsEnding ending.Value) rest b in
+    elim v.3 [
+      | inl rows ↦ (let last = rows_behind v.1 rows in (LetRows v.0 last.0, with_behind (AreRows last.0 ▸ IsSpaces) v.0 v.1 rest v.2 last.1))
+      | inr factors ↦ (LetProduct v.0 factors.0, with_behind (AreFactors factors.0) v.0 v.1 rest v.2 factors.1)
+    ]
+
+-- a command and what may stand behind its word make some line
+pub taken_line : (c : Command) (rest : List ℕ) → IsTaken c rest → (line : Line) × Completes c line rest
+taken_line command.Group rest b = let v = group_behind rest b in (Group v.0 v.1, v.2)
+taken_line command.Reduce rest b = let v = rows_behind rest b in (Reduce v.0, v.1)
+taken_line command.Let rest b = let_behind rest b
+taken_line command.Show rest b = let v = show_behind rest b in (Show v.0, v.1)
+taken_line command.Equal rest b = let v = equal_behind rest b in (Equal v.0 v.1, v.2)
+
+-- bytes of the command's word, and of what makes a line behind it, are the text of the line
+pub completed : (F : List ℕ → List ℕ → Type 0) (bytes : List ℕ) (s : IsSpaced F bytes) (c : Command) (line : Line) → s.token ≡ keyword c → Completes c line s.rest → IsLine bytes line
+completed F bytes s command.Group (Group n r) word h = refit F (λ t u. Is (codes "group") t × (IsNumber n ▸ IsNumber r ▸ IsSpaces) u) bytes s (word, h)
+completed F bytes s command.Reduce (Reduce rows) word h = refit F (λ t u. Is (codes "reduce") t × (AreRows rows ▸ IsSpaces) u) bytes s (word, h)
+completed F bytes s command.Let (LetRows name rows) word h = refit F (λ t u. Is (codes "let") t × (IsNamed name ▸ Is (codes "=") ▸ AreRows rows ▸ IsSpaces) u) bytes s (word, h)
+completed F bytes s command.Let (LetProduct name factors) word h = refit F (λ t u. Is (codes "let") t × (IsNamed name ▸ Is (codes "=") ▸ AreFactors factors) u) bytes s (word, h)
+completed F bytes s command.Show (Show name) word h = refit F (λ t u. Is (codes "show") t × (IsNamed name ▸ IsSpaces) u) bytes s (word, h)
+completed F bytes s command.Equal (Equal first second) word h = refit F (λ t u. Is (codes "equal") t × (IsNamed first ▸ IsNamed second ▸ IsSpaces) u) bytes s (word, h)
+completed F bytes s _ _ word h = absurd h
+
 -- the line of a command
-line_of : (bytes : List ℕ) (s : IsCommandText bytes) (c : Command) → s.token ≡ keyword c → IsBehind (slots_of c) s.rest → IsLineText bytes
-line_of bytes s command.Group word b =
-    let v = group_behind s.rest b in (Group v.0 v.1, refit CommandFits (λ t u. Is (codes "group") t × (IsNumber v.0 ▸ IsNumber v.1 ▸ IsSpaces) u) bytes s (word, v.2))
-line_of bytes s command.Reduce word b =
-    let v = reduce_behind s.rest b in (Reduce v.0, refit CommandFits (λ t u. Is (codes "reduce") t × (AreRows v.0 ▸ IsSpaces) u) bytes s (word, v.1))
-line_of bytes s command.Let word b =
-    let v = let_behind s.rest b in (LetRows v.0 v.1, refit CommandFits (λ t u. Is (codes "let") t × (IsNamed v.0 ▸ Is (codes "=") ▸ AreRows v.1 ▸ IsSpaces) u) bytes s (word, v.2))
-line_of bytes s command.Show word b =
-    let v = show_behind s.rest b in (Show v.0, refit CommandFits (λ t u. Is (codes "show") t × (IsNamed v.0 ▸ IsSpaces) u) bytes s (word, v.1))
-line_of bytes s command.Equal word b =
-    let v = equal_behind s.rest b in (Equal v.0 v.1, refit CommandFits (λ t u. Is (codes "equal") t × (IsNamed v.0 ▸ IsNamed v.1 ▸ IsSpaces) u) bytes s (word, v.2))
+line_of : (bytes : List ℕ) (s : IsCommandText bytes) (c : Command) → s.token ≡ keyword c → IsTaken c s.rest → IsLineText bytes
+line_of bytes s c word b = let v = taken_line c s.rest b in (v.0, completed CommandFits bytes s c v.0 word v.1)
 
 pub command_line : (bytes : List ℕ) → IsCommandText bytes → IsLineText bytes
 command_line bytes s = line_of bytes s s.fits.of s.fits.word s.fits.behind
@@ -90,13 +120,14 @@ command_for Blank = None
 command_for (Group n r) = Some command.Group
 command_for (Reduce rows) = Some command.Reduce
 command_for (LetRows name rows) = Some command.Let
+command_for (LetProduct name factors) = Some command.Let
 command_for (Show name) = Some command.Show
 command_for (Equal first second) = Some command.Equal
 
 -- bytes of a line, by its command
 abbrev pub Told : List ℕ → Option Command → Type 0
 Told bytes None = IsSpaces bytes ⊎ IsComment bytes
-Told bytes (Some c) = (Is (keyword c) ▸ IsBehind (slots_of c)) bytes
+Told bytes (Some c) = (Is (keyword c) ▸ IsTaken c) bytes
 
 pub told : (line : Line) (bytes : List ℕ) → IsLine bytes line → Told bytes (command_for line)
 told Blank bytes h = h
@@ -107,14 +138,18 @@ told (LetRows name rows) bytes h =
     let named = h.fits.1 in
     let equals = named.fits.1 in
     let last = equals.fits.1 in
-    refit _ _ bytes h (h.fits.0, refit _ _ h.rest named (named.fits.0.0, refit _ _ named.rest equals (equals.fits.0, refit _ _ equals.rest last ((rows, last.fits.0), last.fits.1))))
+    refit _ _ bytes h (h.fits.0, refit _ _ h.rest named (named.fits.0.0, refit _ _ named.rest equals (equals.fits.0, inl (refit _ _ equals.rest last ((rows, last.fits.0), last.fits.1)))))
+told (LetProduct name factors) bytes h =
+    let named = h.fits.1 in
+    let equals = named.fits.1 in
+    refit _ _ bytes h (h.fits.0, refit _ _ h.rest named (named.fits.0.0, refit _ _ named.rest equals (equals.fits.0, inr (factors, equals.fits.1))))
 told (Show name) bytes h = refit _ _ bytes h (h.fits.0, refit _ _ h.rest h.fits.1 (h.fits.1.fits.0.0, h.fits.1.fits.1))
 told (Equal first second) bytes h =
     let last = h.fits.1.fits.1 in
     refit _ _ bytes h (h.fits.0, refit _ _ h.rest h.fits.1 (h.fits.1.fits.0.0, refit _ _ h.fits.1.rest last (last.fits.0.0, last.fits.1)))
 
-pub command_text : (bytes : List ℕ) (c : Command) → (Is (keyword c) ▸ IsBehind (slots_of c)) bytes → IsCommandText bytes
-command_text bytes c h = refit (λ t u. Is (keyword c) t × IsBehind (slots_of c) u) CommandFits bytes h (record { of = c; word = h.fits.0; behind = h.fits.1 })
+pub command_text : (bytes : List ℕ) (c : Command) → (Is (keyword c) ▸ IsTaken c) bytes → IsCommandText bytes
+command_text bytes c h = refit (λ t u. Is (keyword c) t × IsTaken c u) CommandFits bytes h (record { of = c; word = h.fits.0; behind = h.fits.1 })
 
 cases_of : (bytes : List ℕ) (c : Option Command) → Told bytes c → (IsSpaces bytes ⊎ IsComment bytes) ⊎ IsCommandText bytes
 cases_of bytes None h = inl h
@@ -135,8 +170,8 @@ first_command bytes at token rest line unmarked h is_line = elim (line_cases lin
 ]
 
 -- what stands behind the word of a known command
-pub behind_word : (c : Command) (token rest : List ℕ) → token ≡ keyword c → CommandFits token rest → IsBehind (slots_of c) rest
-behind_word c token rest e h = subst (λ d. IsBehind (slots_of d) rest) (same_command h.of c (sym h.word ∙ e)) h.behind
+pub behind_word : (c : Command) (token rest : List ℕ) → token ≡ keyword c → CommandFits token rest → IsTaken c rest
+behind_word c token rest e h = subst (λ d. IsTaken d rest) (same_command h.of c (sym h.word ∙ e)) h.behind
 
 -- a mark begins no token that is a space
 mark_begins : (text : List ℕ) → BeginsToken (35 ∷ text)
@@ -242,6 +277,10 @@ longest_line bytes k unmarked h = record {
   longest = λ j l f. h.longest j l (command_front (take j bytes) (drop j bytes) (subst IsUnmarked (sym (take-append-drop j bytes)) unmarked) f);
 }
 
+-- only spaces
+pub longest_blank : (bytes : List ℕ) → IsSpaces bytes → IsLongestFront IsLineText bytes (length bytes)
+longest_blank bytes spaces = longest_whole IsLineText bytes (record { rest = []; text = (Blank, inl (subst IsSpaces (sym (append-nil bytes)) spaces)) })
+
 -- the word is that of no command
 pub longest_in_word : (bytes : List ℕ) (at : ℕ) (token rest : List ℕ) (k : ℕ) → IsUnmarked bytes → IsFirstToken bytes at token rest → ¬ IsKeyword token → IsLongestFront IsKeyword token k → IsLongestFront IsLineText bytes (at + k)
 longest_in_word bytes at token rest k unmarked h none front =
@@ -260,9 +299,17 @@ longest_to_word bytes at token rest c unmarked h none word =
     (longest_line bytes (at + length token) unmarked (longest_in_token CommandFits bytes at token rest (length token) command_tokens command_takes_space h (inl end) whole))
 
 -- the longest front goes on behind the word of a command
-pub longest_past_word : (bytes : List ℕ) (at : ℕ) (token rest : List ℕ) (c : Command) (k : ℕ) → IsUnmarked bytes → IsFirstToken bytes at token rest → token ≡ keyword c → IsLongestFront (IsBehind (slots_of c)) rest k
+pub longest_past_word : (bytes : List ℕ) (at : ℕ) (token rest : List ℕ) (c : Command) (k : ℕ) → IsUnmarked bytes → IsFirstToken bytes at token rest → token ≡ keyword c → IsLongestFront (IsTaken c) rest k
     → IsLongestFront IsLineText bytes (at + length token + k)
 longest_past_word bytes at token rest c k unmarked h word front =
     longest_line bytes (at + length token + k) unmarked
     (longest_past_token CommandFits bytes at token rest k command_tokens command_takes_space h
-    (longest_same (IsBehind (slots_of c)) (CommandFits token) rest k (λ t b. record { of = c; word = word; behind = b }) (λ t f. behind_word c token t word f) front))
+    (longest_same (IsTaken c) (CommandFits token) rest k (λ t b. record { of = c; word = word; behind = b }) (λ t f. behind_word c token t word f) front))
+
+-- the line found behind the word of a command is that of all the bytes
+pub line_read : {E : Type 0} (bytes : List ℕ) (at : ℕ) (token rest : List ℕ) (c : Command) → IsUnmarked bytes → IsFirstToken bytes at token rest → token ≡ keyword c → (r : Result (Option Line) E)
+    → IfOk r (Reads c rest) → IfOk r (λ found. MatchOption found (IsNoLine bytes) (IsLine bytes))
+line_read bytes at token rest c unmarked h word (Err e) g = g
+line_read bytes at token rest c unmarked h word (Ok None) g = λ line is_line. g (behind_word c token rest word (first_command bytes at token rest line unmarked h is_line))
+line_read bytes at token rest c unmarked h word (Ok (Some line)) g =
+    completed (λ t u. t ≡ keyword c) bytes (record { before = take at bytes; token = token; rest = rest; spaces = h.spaces; apart = h.apart; fits = word; is = h.is }) c line word g

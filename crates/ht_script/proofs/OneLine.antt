@@ -1,5 +1,5 @@
 -- Bytes are the text of one line at most.
-use Rattle.std.proofs.Common.{◌≡◌, ◌⊎◌, ℕ, inl, inr, List, Option, Some, None, refl, sym, ap, ◌∙◌, subst}
+use Rattle.std.proofs.Common.{◌≡◌, ◌⊎◌, ℕ, inl, inr, List, [], ◌∷◌, Option, Some, None, refl, sym, ap, ◌∙◌, subst}
 use Rattle.std.specs.Prelude.{codes}
 use Rattle.ht_pair.specs.declared.row.Row.{Row}
 use Rattle.ht_text.proofs.Numbers.{same_num}
@@ -7,28 +7,17 @@ use Rattle.ht_text.proofs.RowTexts.{same_rows}
 use Rattle.ht_script.specs.declared.command.Command.{Command}
 use Rattle.ht_script.specs.declared.command.Command.TheVariants as command
 use Rattle.ht_script.specs.declared.line.Line.{Line}
-use Rattle.ht_script.specs.declared.line.Line.TheVariants.{Blank, Group, Reduce, LetRows, Show, Equal}
+use Rattle.ht_script.specs.declared.line.Line.TheVariants.{Blank, Group, Reduce, LetRows, LetProduct, Show, Equal}
+use Rattle.ht_script.specs.declared.factor.Factor.{Factor}
+use Rattle.ht_script.specs.Factors.{IsFactor, AreListed, AreFactors}
 use Rattle.ht_script.specs.Tokens.{◌▸◌, Is, IsSpaces, IsToken}
 use Rattle.ht_script.specs.Lines.{IsComment, IsNumber, AreRows, IsNamed, IsLine}
-use Rattle.ht_script.specs.Slots.{keyword, slots_of, IsBehind}
-use Rattle.ht_script.proofs.TokenLaws.{at_first, no_token}
-use Rattle.ht_script.proofs.GrammarLaws.{number_token, name_token, equals_token, rows_token}
+use Rattle.ht_script.specs.Slots.{keyword, IsTaken}
+use Rattle.ht_script.proofs.TokenLaws.{AreBoth, both, no_token, none_of}
+use Rattle.ht_script.proofs.GrammarLaws.{number_token, name_token, equals_token, rows_token, rows_first}
+use Rattle.ht_script.proofs.FactorTexts.{factor_token, factor_first, same_listed}
 use Rattle.ht_script.proofs.CommandLaws.{keyword_token, same_command}
 use Rattle.ht_script.proofs.LineLaws.{CommandFits, IsCommandText, Told, told, command_for, command_tokens, command_text, unmarked_command}
-
--- one token and one rest that two readings of the bytes agree on
-record AreBoth (T R U S : List ℕ → Type 0) : Type 0 where
-  token : List ℕ
-  rest : List ℕ
-  first : T token
-  second : U token
-  behind_first : R rest
-  behind_second : S rest
-
-both : (T R U S : List ℕ → Type 0) (bytes : List ℕ) → ((t : List ℕ) → T t → IsToken t) → ((t : List ℕ) → U t → IsToken t) → (T ▸ R) bytes → (U ▸ S) bytes → AreBoth T R U S
-both T R U S bytes f g s h =
-    let other = at_first (λ t r. U t × S r) bytes s.before s.token s.rest (λ t r k. g t k.0) s.spaces (f s.token s.fits.0) s.apart s.is h in
-    record { token = s.token; rest = s.rest; first = s.fits.0; second = other.0; behind_first = s.fits.1; behind_second = other.1 }
 
 word_token : (c : Command) (t : List ℕ) → Is (keyword c) t → IsToken t
 word_token c t e = subst IsToken (sym e) (keyword_token c)
@@ -43,7 +32,7 @@ one_command bytes None None g h = refl
 one_command bytes None (Some d) g h = absurd (not_blank bytes g (command_text bytes d h))
 one_command bytes (Some c) None g h = absurd (not_blank bytes h (command_text bytes c g))
 one_command bytes (Some c) (Some d) g h =
-    let words = both (Is (keyword c)) (IsBehind (slots_of c)) (Is (keyword d)) (IsBehind (slots_of d)) bytes (word_token c) (word_token d) g h in
+    let words = both (Is (keyword c)) (IsTaken c) (Is (keyword d)) (IsTaken d) bytes (word_token c) (word_token d) g h in
     ap Some (same_command c d (sym words.first ∙ words.second))
 
 -- the rest behind the word of a command
@@ -65,6 +54,32 @@ one_rows p q bytes g h =
     let rows = both (AreRows p) IsSpaces (AreRows q) IsSpaces bytes (λ t k. rows_token t p k) (λ t k. rows_token t q k) g h in
     same_rows rows.token p q rows.first rows.second
 
+-- rows begin with an `x`, and no factor does
+not_both : (p : List Row) (q : List Factor) (bytes : List ℕ) → (AreRows p ▸ IsSpaces) bytes → ¬ AreListed q bytes
+not_both p [] bytes g h = none_of (AreRows p) IsSpaces bytes (λ t k. rows_token t p k) h g
+not_both p (f ∷ q) bytes g h =
+    let firsts = both (AreRows p) IsSpaces (IsFactor f) (AreListed q) bytes (λ t k. rows_token t p k) (factor_token f) g h in
+    let x = rows_first firsts.token p firsts.first in
+    let start = factor_first f firsts.token firsts.second in
+    let is_x = x.1 in
+    let is_start = start.3 in
+    let head : start.0 ≡ 120 = cc in
+    start.2.2 head
+
+-- one name, and one rest behind the `=`
+record IsOneLet (a b : List ℕ) (R S : List ℕ → Type 0) : Type 0 where
+  name : a ≡ b
+  rest : List ℕ
+  first : R rest
+  second : S rest
+
+one_let : (a b : List ℕ) (R S : List ℕ → Type 0) (bytes : List ℕ) → (Is (codes "let") ▸ IsNamed a ▸ Is (codes "=") ▸ R) bytes → (Is (codes "let") ▸ IsNamed b ▸ Is (codes "=") ▸ S) bytes → IsOneLet a b R S
+one_let a b R S bytes g h =
+    let rest = behind_both command.Let (IsNamed a ▸ Is (codes "=") ▸ R) (IsNamed b ▸ Is (codes "=") ▸ S) bytes g h in
+    let names = one_name a b (Is (codes "=") ▸ R) (Is (codes "=") ▸ S) rest.rest rest.behind_first rest.behind_second in
+    let equals = both (Is (codes "=")) R (Is (codes "=")) S names.1.rest equals_token equals_token names.1.behind_first names.1.behind_second in
+    record { name = names.0; rest = equals.rest; first = equals.behind_first; second = equals.behind_second }
+
 same_line : (bytes : List ℕ) (l m : Line) → command_for l ≡ command_for m → IsLine bytes l → IsLine bytes m → l ≡ m
 same_line bytes Blank Blank e g h = refl
 same_line bytes (Group n r) (Group n' r') e g h =
@@ -78,11 +93,18 @@ same_line bytes (Reduce p) (Reduce q) e g h =
     let rest = behind_both command.Reduce (AreRows p ▸ IsSpaces) (AreRows q ▸ IsSpaces) bytes g h in
     ap Reduce (one_rows p q rest.rest rest.behind_first rest.behind_second)
 same_line bytes (LetRows a p) (LetRows b q) e g h =
-    let rest = behind_both command.Let (IsNamed a ▸ Is (codes "=") ▸ AreRows p ▸ IsSpaces) (IsNamed b ▸ Is (codes "=") ▸ AreRows q ▸ IsSpaces) bytes g h in
-    let names = one_name a b (Is (codes "=") ▸ AreRows p ▸ IsSpaces) (Is (codes "=") ▸ AreRows q ▸ IsSpaces) rest.rest rest.behind_first rest.behind_second in
-    let equals = both (Is (codes "=")) (AreRows p ▸ IsSpaces) (Is (codes "=")) (AreRows q ▸ IsSpaces) names.1.rest equals_token equals_token names.1.behind_first names.1.behind_second in
-    let name_is = names.0 in
-    let rows_are = one_rows p q equals.rest equals.behind_first equals.behind_second in
+    let values = one_let a b (AreRows p ▸ IsSpaces) (AreRows q ▸ IsSpaces) bytes g h in
+    let name_is = values.name in
+    let rows_are = one_rows p q values.rest values.first values.second in
+    cc
+same_line bytes (LetRows a p) (LetProduct b q) e g h =
+    let values = one_let a b (AreRows p ▸ IsSpaces) (AreFactors q) bytes g h in absurd (not_both p q values.rest values.first values.second.1)
+same_line bytes (LetProduct a p) (LetRows b q) e g h =
+    let values = one_let a b (AreFactors p) (AreRows q ▸ IsSpaces) bytes g h in absurd (not_both q p values.rest values.second values.first.1)
+same_line bytes (LetProduct a p) (LetProduct b q) e g h =
+    let values = one_let a b (AreFactors p) (AreFactors q) bytes g h in
+    let name_is = values.name in
+    let factors_are = same_listed p q values.rest values.first.1 values.second.1 in
     cc
 same_line bytes (Show a) (Show b) e g h =
     let rest = behind_both command.Show (IsNamed a ▸ IsSpaces) (IsNamed b ▸ IsSpaces) bytes g h in

@@ -1,7 +1,7 @@
 -- The first token of bytes is the only one that they can have.
-use Rattle.std.proofs.Common.{◌≡◌, ◌≢◌, ◌<◌, ℕ, List, [], ◌∷◌, ◌++◌, take, refl, sym, ◌∙◌, subst, subst₂, arith, Result, Ok, Err, Option, Some, None, IfOk, MatchOption}
+use Rattle.std.proofs.Common.{◌≡◌, ◌≢◌, ◌<◌, ℕ, List, [], ◌∷◌, ◌++◌, take, refl, sym, ap, ◌∙◌, subst, subst₂, arith, Result, Ok, Err, Option, Some, None, IfOk, MatchOption}
 use Rattle.std.specs.List.{AllByRecursion}
-use Rattle.std.proofs.lemmas.List.Elements.{recursion_from_All}
+use Rattle.std.proofs.lemmas.List.Elements.{All-nil, All-cons, recursion_from_All}
 use Rattle.ht_script.specs.Tokens.{◌▸◌, Is, IsSpaces, IsToken, IsApart, IsSpaced, IsFirstToken}
 
 -- the first byte is there and isn't a space
@@ -138,3 +138,41 @@ pub single_read : {X E : Type 0} (T : X → List ℕ → Type 0) (bytes token : 
 single_read T bytes token f s is_token (Err e) h = h
 single_read T bytes token f s is_token (Ok None) h = λ x g. h x (single_is (T x) bytes token (f x) s is_token g)
 single_read T bytes token f s is_token (Ok (Some x)) h = single_of (T x) bytes token s h
+
+-- one more space may stand before the first token
+pub spaced_before : (F : List ℕ → List ℕ → Type 0) (bytes : List ℕ) → IsSpaced F bytes → IsSpaced F (32 ∷ bytes)
+spaced_before F bytes s = record {
+  before = 32 ∷ s.before;
+  token = s.token;
+  rest = s.rest;
+  spaces = All-cons (λ b. b ≡ 32) 32 s.before refl s.spaces;
+  apart = s.apart;
+  fits = s.fits;
+  is = ap (λ t. 32 ∷ t) s.is;
+}
+
+-- a token behind a space
+pub one_spaced : (F : List ℕ → List ℕ → Type 0) (token rest : List ℕ) → F token rest → IsApart rest → IsSpaced F (32 ∷ (token ++ rest))
+one_spaced F token rest fits apart = record {
+  before = 32 ∷ [];
+  token = token;
+  rest = rest;
+  spaces = All-cons (λ b. b ≡ 32) 32 [] refl (All-nil (λ b. b ≡ 32));
+  apart = apart;
+  fits = fits;
+  is = refl;
+}
+
+-- one token and one rest that two readings of the bytes agree on
+pub record AreBoth (T R U S : List ℕ → Type 0) : Type 0 where
+  pub token : List ℕ
+  pub rest : List ℕ
+  pub first : T token
+  pub second : U token
+  pub behind_first : R rest
+  pub behind_second : S rest
+
+pub both : (T R U S : List ℕ → Type 0) (bytes : List ℕ) → ((t : List ℕ) → T t → IsToken t) → ((t : List ℕ) → U t → IsToken t) → (T ▸ R) bytes → (U ▸ S) bytes → AreBoth T R U S
+both T R U S bytes f g s h =
+    let other = at_first (λ t r. U t × S r) bytes s.before s.token s.rest (λ t r k. g t k.0) s.spaces (f s.token s.fits.0) s.apart s.is h in
+    record { token = s.token; rest = s.rest; first = s.fits.0; second = other.0; behind_first = s.fits.1; behind_second = other.1 }

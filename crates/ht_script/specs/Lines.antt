@@ -12,9 +12,10 @@ use Rattle.std.specs.Prelude.{◌≡◌, ◌≢◌, ◌⊎◌, ℕ, List, ◌∷
 use Rattle.ht_pair.specs.declared.row.Row.{Row}
 use Rattle.ht_text.specs.Texts.{IsNum, IsRows}
 use Rattle.ht_script.specs.declared.line.Line.{Line}
-use Rattle.ht_script.specs.declared.line.Line.TheVariants.{Blank, Group, Reduce, LetRows, Show, Equal}
+use Rattle.ht_script.specs.declared.line.Line.TheVariants.{Blank, Group, Reduce, LetRows, LetProduct, Show, Equal}
 use Rattle.ht_script.specs.Tokens.{IsSpaces, Is, ◌▸◌}
 use Rattle.ht_script.specs.Names.{IsName}
+use Rattle.ht_script.specs.Factors.{AreFactors}
 
 pub record IsMarked (bytes text : List ℕ) : Type 0 where
   pub before : List ℕ
@@ -40,6 +41,7 @@ IsLine bytes Blank = IsSpaces bytes ⊎ IsComment bytes
 IsLine bytes (Group n r) = (Is (codes "group") ▸ IsNumber n ▸ IsNumber r ▸ IsSpaces) bytes
 IsLine bytes (Reduce rows) = (Is (codes "reduce") ▸ AreRows rows ▸ IsSpaces) bytes
 IsLine bytes (LetRows name rows) = (Is (codes "let") ▸ IsNamed name ▸ Is (codes "=") ▸ AreRows rows ▸ IsSpaces) bytes
+IsLine bytes (LetProduct name factors) = (Is (codes "let") ▸ IsNamed name ▸ Is (codes "=") ▸ AreFactors factors) bytes
 IsLine bytes (Show name) = (Is (codes "show") ▸ IsNamed name ▸ IsSpaces) bytes
 IsLine bytes (Equal first second) = (Is (codes "equal") ▸ IsNamed first ▸ IsNamed second ▸ IsSpaces) bytes
 

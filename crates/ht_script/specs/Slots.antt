@@ -1,20 +1,30 @@
 -- The commands, and what stands behind the word of each.
 --
---     keyword command         the command's word
---     slots_of command        what its further tokens are
---     IsSlot slot token       the token fits the slot
---     IsBehind slots bytes    a token for each slot, with spaces between them, and behind the last only spaces
---     IsKeyword token         the token is the word of some command
---     IsUnmarked bytes        the first byte that isn't a space isn't `#`
-use Rattle.std.specs.Prelude.{◌≡◌, ℕ, List, [], ◌∷◌, codes}
+--     keyword command               the command's word
+--     slots_of command              what its further tokens are
+--     ending_of command             what stands behind these
+--     IsSlot slot token             the token fits the slot
+--     IsEnding ending bytes         the bytes are of the ending: spaces alone, rows, or rows or factors
+--     IsBehind ending slots bytes   a token for each slot, with spaces before each, and behind the last what the ending says
+--     IsTaken command bytes         the bytes may stand behind the command's word
+--     Completes command line bytes  the command's word and the bytes behind it make the line
+--     Reads command bytes found     the line found is the one that they make; none, where they make none
+--     IsKeyword token               the token is the word of some command
+--     IsUnmarked bytes              the first byte that isn't a space isn't `#`
+use Rattle.std.specs.Prelude.{◌≡◌, ◌⊎◌, ℕ, List, [], ◌∷◌, codes, Option, MatchOption}
 use Rattle.ht_text.specs.Fronts.{IsNumText, IsRowsText}
 use Rattle.ht_script.specs.declared.command.Command.{Command}
 use Rattle.ht_script.specs.declared.command.Command.TheVariants as command
 use Rattle.ht_script.specs.declared.command.Slot.{Slot}
-use Rattle.ht_script.specs.declared.command.Slot.TheVariants.{Number, Name, Equals, Rows}
+use Rattle.ht_script.specs.declared.command.Slot.TheVariants.{Number, Name, Equals}
+use Rattle.ht_script.specs.declared.ending.Ending.{Ending}
+use Rattle.ht_script.specs.declared.ending.Ending.TheVariants as ending
+use Rattle.ht_script.specs.declared.line.Line.{Line}
+use Rattle.ht_script.specs.declared.line.Line.TheVariants.{Group, Reduce, LetRows, LetProduct, Show, Equal}
 use Rattle.ht_script.specs.Tokens.{IsSpaces, Is, ◌▸◌}
 use Rattle.ht_script.specs.Names.{IsName}
-use Rattle.ht_script.specs.Lines.{IsMarked}
+use Rattle.ht_script.specs.Factors.{AreFactors, AreFactorsText}
+use Rattle.ht_script.specs.Lines.{IsMarked, IsNumber, AreRows, IsNamed}
 
 abbrev pub keyword : Command → List ℕ
 keyword command.Group = codes "group"
@@ -25,20 +35,46 @@ keyword command.Equal = codes "equal"
 
 abbrev pub slots_of : Command → List Slot
 slots_of command.Group = Number ∷ Number ∷ []
-slots_of command.Reduce = Rows ∷ []
-slots_of command.Let = Name ∷ Equals ∷ Rows ∷ []
+slots_of command.Reduce = []
+slots_of command.Let = Name ∷ Equals ∷ []
 slots_of command.Show = Name ∷ []
 slots_of command.Equal = Name ∷ Name ∷ []
+
+abbrev pub ending_of : Command → Ending
+ending_of command.Group = ending.Spaces
+ending_of command.Reduce = ending.Rows
+ending_of command.Let = ending.Value
+ending_of command.Show = ending.Spaces
+ending_of command.Equal = ending.Spaces
 
 abbrev pub IsSlot : Slot → List ℕ → Type 0
 IsSlot Number token = IsNumText token
 IsSlot Name token = IsName token
 IsSlot Equals token = Is (codes "=") token
-IsSlot Rows token = IsRowsText token
 
-abbrev pub IsBehind : List Slot → List ℕ → Type 0
-IsBehind [] bytes = IsSpaces bytes
-IsBehind (slot ∷ slots) bytes = (IsSlot slot ▸ IsBehind slots) bytes
+abbrev pub IsEnding : Ending → List ℕ → Type 0
+IsEnding ending.Spaces bytes = IsSpaces bytes
+IsEnding ending.Rows bytes = (IsRowsText ▸ IsSpaces) bytes
+IsEnding ending.Value bytes = (IsRowsText ▸ IsSpaces) bytes ⊎ AreFactorsText bytes
+
+abbrev pub IsBehind : Ending → List Slot → List ℕ → Type 0
+IsBehind ending [] bytes = IsEnding ending bytes
+IsBehind ending (slot ∷ slots) bytes = (IsSlot slot ▸ IsBehind ending slots) bytes
+
+abbrev pub IsTaken : Command → List ℕ → Type 0
+IsTaken command bytes = IsBehind (ending_of command) (slots_of command) bytes
+
+abbrev pub Completes : Command → Line → List ℕ → Type 0
+Completes command.Group (Group n r) bytes = (IsNumber n ▸ IsNumber r ▸ IsSpaces) bytes
+Completes command.Reduce (Reduce rows) bytes = (AreRows rows ▸ IsSpaces) bytes
+Completes command.Let (LetRows name rows) bytes = (IsNamed name ▸ Is (codes "=") ▸ AreRows rows ▸ IsSpaces) bytes
+Completes command.Let (LetProduct name factors) bytes = (IsNamed name ▸ Is (codes "=") ▸ AreFactors factors) bytes
+Completes command.Show (Show name) bytes = (IsNamed name ▸ IsSpaces) bytes
+Completes command.Equal (Equal first second) bytes = (IsNamed first ▸ IsNamed second ▸ IsSpaces) bytes
+Completes _ _ bytes = ⊥
+
+abbrev pub Reads : Command → List ℕ → Option Line → Type 0
+Reads command bytes found = MatchOption found (¬ IsTaken command bytes) (λ line. Completes command line bytes)
 
 abbrev pub IsKeyword : List ℕ → Type 0
 IsKeyword token = (command : Command) × (token ≡ keyword command)

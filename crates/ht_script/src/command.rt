@@ -1,11 +1,12 @@
 //! The commands, and what stands behind the word of each.
 ghost use Rattle.std.specs.Prelude.{◌≡◌, ◌≢◌, ◌↔◌, ℕ, IsTrue, MatchOption};
 ghost use Rattle.ht_text.specs.Fronts.{IsLongestFront};
-ghost use Rattle.ht_script.specs.Slots.{keyword, slots_of, IsSlot, IsKeyword};
+ghost use Rattle.ht_script.specs.Slots.{keyword, slots_of, ending_of, IsSlot, IsKeyword};
 
+use crate::ending::Ending;
 use crate::name::{is_name, name_front};
 use crate::token::{is_equals, shared_front};
-use ht_text::{is_rows, num_front, read_num, rows_front};
+use ht_text::{num_front, read_num};
 
 /// The first word of a line that isn't blank.
 #[derive(Clone, Copy, Debug, PartialEq, Eq)]
@@ -23,7 +24,6 @@ pub(crate) enum Slot {
     Number,
     Name,
     Equals,
-    Rows,
 }
 
 // Every command.
@@ -49,16 +49,27 @@ impl Command {
         }
     }
 
-    // What stands behind the command's word.
+    // The tokens behind the command's word.
     pub(crate) fn slots(self) -> &'static [Slot]
         ensures { result.now ≡ slots_of self }
     {
         match self {
             Command::Group => &[Slot::Number, Slot::Number],
-            Command::Reduce => &[Slot::Rows],
-            Command::Let => &[Slot::Name, Slot::Equals, Slot::Rows],
+            Command::Reduce => &[],
+            Command::Let => &[Slot::Name, Slot::Equals],
             Command::Show => &[Slot::Name],
             Command::Equal => &[Slot::Name, Slot::Name],
+        }
+    }
+
+    // What stands behind these tokens.
+    pub(crate) fn ending(self) -> Ending
+        ensures { result ≡ ending_of self }
+    {
+        match self {
+            Command::Reduce => Ending::Rows,
+            Command::Let => Ending::Value,
+            Command::Group | Command::Show | Command::Equal => Ending::Spaces,
         }
     }
 
@@ -99,7 +110,6 @@ impl Slot {
             Slot::Number => read_num(token).is_some(),
             Slot::Name => is_name(token),
             Slot::Equals => is_equals(token),
-            Slot::Rows => is_rows(token),
         }
     }
 
@@ -112,7 +122,6 @@ impl Slot {
             Slot::Number => num_front(token),
             Slot::Name => name_front(token),
             Slot::Equals => shared_front(token, b"="),
-            Slot::Rows => rows_front(token),
         }
     }
 }

@@ -4,7 +4,8 @@ ghost use Rattle.ht_script.specs.Lines.{IsLineText};
 ghost use Rattle.ht_script.specs.Slots.{IsBehind, IsUnmarked};
 
 use crate::command::{Command, Slot, keyword_front};
-use crate::token::{behind_mark, count_before, count_spaces, first_token};
+use crate::ending::Ending;
+use crate::token::{behind_mark, count_before, first_token};
 
 // The length of the longest front of the bytes that some line has. At most six passes over them.
 pub(crate) fn line_front(line: &[u8]) -> usize
@@ -30,17 +31,17 @@ fn command_front(line: &[u8]) -> usize
     if rest.is_empty() {
         return line.len();
     }
-    let behind = slots_front(command.slots(), rest);
+    let behind = slots_front(command.slots(), command.ending(), rest);
     at + token.len() + behind
 }
 
-// The length of the longest front of the bytes that tokens for the slots have. One pass over the
-// bytes, and at most four over each token.
-fn slots_front(slots: &[Slot], bytes: &[u8]) -> usize
-    ensures { IsLongestFront (IsBehind slots.now) bytes.now result }
+// The length of the longest front of the bytes that tokens for the slots and the ending behind them
+// have. At most four passes over each token and seven over the ending.
+fn slots_front(slots: &[Slot], ending: Ending, bytes: &[u8]) -> usize
+    ensures { IsLongestFront (IsBehind ending slots.now) bytes.now result }
 {
     let Some((slot, later)) = slots.split_first() else {
-        return count_spaces(bytes);
+        return ending.front(bytes);
     };
     let Some((at, token, rest)) = first_token(bytes) else {
         return bytes.len();
@@ -51,6 +52,6 @@ fn slots_front(slots: &[Slot], bytes: &[u8]) -> usize
     if !slot.holds(token) {
         return at + slot.front(token);
     }
-    let behind = slots_front(later, rest);
+    let behind = slots_front(later, ending, rest);
     at + token.len() + behind
 }

@@ -6,6 +6,9 @@
 //! - `line`: lines, and reading one
 //! - `value`: the line that bytes are the text of
 //! - `front`: the longest front that some line has
+//! - `factor`: factors of products
+//! - `exponent`: texts of exponents
+//! - `ending`: how lines end behind their slots
 //! - `command`: the commands, and what stands behind the word of each
 //! - `name`: names of elements
 //! - `token`: tokens with spaces round them
@@ -13,6 +16,9 @@
 #![tactic(auto)]
 
 mod command;
+mod ending;
+mod exponent;
+mod factor;
 mod front;
 mod laws;
 mod line;
@@ -20,5 +26,6 @@ mod name;
 mod token;
 mod value;
 
+pub use factor::{Exponent, Factor, Factors};
 pub use laws::line_texts_are_one_line;
 pub use line::{Line, LineFault, read_line};

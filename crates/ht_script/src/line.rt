@@ -4,6 +4,7 @@ ghost use Rattle.ht_text.specs.Fronts.{IsLongestFront};
 ghost use Rattle.ht_script.specs.declared.line.LineFault.TheVariants as fault;
 ghost use Rattle.ht_script.specs.Lines.{IsLine, IsNoLine, IsLineText};
 
+use crate::factor::Factors;
 use crate::front::line_front;
 use crate::value::read_value;
 use ht_pair::Rows;
@@ -22,6 +23,8 @@ pub enum Line {
     Reduce(Rows),
     /// `let`, a name, `=` and rows.
     LetRows { name: Name, rows: Rows },
+    /// `let`, a name, `=` and factors, at least one.
+    LetProduct { name: Name, factors: Factors },
     /// `show` and a name.
     Show(Name),
     /// `equal` and two names.

@@ -1,8 +1,12 @@
 //! Names of elements.
-ghost use Rattle.std.specs.Prelude.{◌↔◌, IsTrue};
+ghost use Rattle.std.specs.Prelude.{◌↔◌, ℕ, List, IfOk, IsTrue, MatchOption};
 ghost use Rattle.ht_text.specs.Fronts.{IsLongestFront};
 ghost use Rattle.ht_script.specs.Names.{IsName, IsNameByte, IsNameStart};
 ghost use Rattle.ht_script.specs.Tokens.{IsSpan};
+ghost use Rattle.ht_script.specs.Lines.{IsNamed};
+
+use ht_word::{Name, NoMemory};
+use std::alloc::Global;
 
 // The bytes of the longest name behind its first one.
 const MOST_BEHIND: usize = 31;
@@ -53,4 +57,15 @@ pub(crate) fn name_front(bytes: &[u8]) -> usize
     }
     let within = others.len().min(MOST_BEHIND);
     1 + count_name_bytes(&others[..within])
+}
+
+// The name that the bytes are. Two passes over them.
+pub(crate) fn read_name(alloc: Global, bytes: &[u8]) -> Result<Option<Name>, NoMemory>
+    ensures { IfOk result (λ found. MatchOption found
+        ((name : List ℕ) → ¬ IsNamed name bytes.now) (λ name. IsNamed name bytes.now)) }
+{
+    if !is_name(bytes) {
+        return Ok(None);
+    }
+    Ok(Some(Name::from_slice(alloc, bytes)?))
 }

@@ -3,11 +3,12 @@ ghost use Rattle.std.specs.Prelude.{◌≡◌, ℕ, List, IfOk, MatchOption, cod
 ghost use Rattle.ht_pair.specs.declared.row.Row.{Row};
 ghost use Rattle.ht_script.specs.Tokens.{◌▸◌, Is, IsSpaces, IsToken};
 ghost use Rattle.ht_script.specs.Lines.{IsNumber, AreRows, IsNamed, IsLine, IsNoLine};
-ghost use Rattle.ht_script.specs.Slots.{IsUnmarked};
+ghost use Rattle.ht_script.specs.Slots.{IsUnmarked, Reads};
 
 use crate::Line;
 use crate::command::Command;
-use crate::name::is_name;
+use crate::factor::read_factors;
+use crate::name::read_name;
 use crate::token::{behind_mark, count_before, first_token, is_equals, only_spaces};
 use ht_pair::Rows;
 use ht_text::{read_num, read_rows};
@@ -38,38 +39,76 @@ fn read_command(alloc: Global, line: &[u8]) -> Result<Option<Line>, NoMemory>
     let Some(command) = Command::of_keyword(token) else {
         return Ok(None);
     };
+    read_behind(alloc, command, rest)
+}
+
+// The line that the command's word and the bytes behind it make.
+fn read_behind(alloc: Global, command: Command, bytes: &[u8]) -> Result<Option<Line>, NoMemory>
+    ensures { IfOk result (Reads command bytes.now) }
+{
     match command {
-        Command::Group => {
-            let Some((n, r)) = read_group(rest) else {
-                return Ok(None);
-            };
-            Ok(Some(Line::Group { n, r }))
-        }
-        Command::Reduce => {
-            let Some(rows) = read_last_rows(alloc, rest)? else {
-                return Ok(None);
-            };
-            Ok(Some(Line::Reduce(rows)))
-        }
-        Command::Let => {
-            let Some((name, rows)) = read_let(alloc, rest)? else {
-                return Ok(None);
-            };
-            Ok(Some(Line::LetRows { name, rows }))
-        }
-        Command::Show => {
-            let Some(name) = read_last_name(alloc, rest)? else {
-                return Ok(None);
-            };
-            Ok(Some(Line::Show(name)))
-        }
-        Command::Equal => {
-            let Some((first, second)) = read_two_names(alloc, rest)? else {
-                return Ok(None);
-            };
-            Ok(Some(Line::Equal(first, second)))
-        }
+        Command::Group => Ok(read_group(bytes)),
+        Command::Reduce => read_reduce(alloc, bytes),
+        Command::Let => read_let(alloc, bytes),
+        Command::Show => read_show(alloc, bytes),
+        Command::Equal => read_equal(alloc, bytes),
     }
+}
+
+// The line of `group` and the bytes behind it. Two passes over them.
+fn read_group(bytes: &[u8]) -> Option<Line>
+    ensures { Reads Command.Group bytes.now result }
+{
+    let Some((n, r)) = read_two_numbers(bytes) else {
+        return None;
+    };
+    Some(Line::Group { n, r })
+}
+
+// The line of `reduce` and the bytes behind it. Five passes over them.
+fn read_reduce(alloc: Global, bytes: &[u8]) -> Result<Option<Line>, NoMemory>
+    ensures { IfOk result (Reads Command.Reduce bytes.now) }
+{
+    let Some(rows) = read_last_rows(alloc, bytes)? else {
+        return Ok(None);
+    };
+    Ok(Some(Line::Reduce(rows)))
+}
+
+// The line of `let` and the bytes behind it. Twelve passes over them.
+fn read_let(alloc: Global, bytes: &[u8]) -> Result<Option<Line>, NoMemory>
+    ensures { IfOk result (Reads Command.Let bytes.now) }
+{
+    let Some((name, behind)) = read_bound_name(alloc, bytes)? else {
+        return Ok(None);
+    };
+    if let Some(rows) = read_last_rows(alloc, behind)? {
+        return Ok(Some(Line::LetRows { name, rows }));
+    }
+    let Some(factors) = read_factors(alloc, behind)? else {
+        return Ok(None);
+    };
+    Ok(Some(Line::LetProduct { name, factors }))
+}
+
+// The line of `show` and the bytes behind it. Two passes over them.
+fn read_show(alloc: Global, bytes: &[u8]) -> Result<Option<Line>, NoMemory>
+    ensures { IfOk result (Reads Command.Show bytes.now) }
+{
+    let Some(name) = read_last_name(alloc, bytes)? else {
+        return Ok(None);
+    };
+    Ok(Some(Line::Show(name)))
+}
+
+// The line of `equal` and the bytes behind it. Three passes over them.
+fn read_equal(alloc: Global, bytes: &[u8]) -> Result<Option<Line>, NoMemory>
+    ensures { IfOk result (Reads Command.Equal bytes.now) }
+{
+    let Some((first, second)) = read_two_names(alloc, bytes)? else {
+        return Ok(None);
+    };
+    Ok(Some(Line::Equal(first, second)))
 }
 
 // The one token that the bytes have. One pass over them.
@@ -86,8 +125,8 @@ fn only_token(bytes: &[u8]) -> Option<&[u8]>
     Some(token)
 }
 
-// The two numbers behind `group`. Two passes over the bytes.
-fn read_group(bytes: &[u8]) -> Option<(u32, u32)>
+// The two numbers that are the bytes. Two passes over them.
+fn read_two_numbers(bytes: &[u8]) -> Option<(u32, u32)>
     ensures { MatchOption result ((n r : ℕ) → ¬ (IsNumber n ▸ IsNumber r ▸ IsSpaces) bytes.now)
         (λ p. (IsNumber p.0 ▸ IsNumber p.1 ▸ IsSpaces) bytes.now) }
 {
@@ -128,7 +167,7 @@ fn read_last_name(alloc: Global, bytes: &[u8]) -> Result<Option<Name>, NoMemory>
     read_name(alloc, token)
 }
 
-// The two names behind `equal`. Three passes over the bytes.
+// The two names that are the bytes. Three passes over the bytes.
 fn read_two_names(alloc: Global, bytes: &[u8]) -> Result<Option<(Name, Name)>, NoMemory>
     ensures { IfOk result (λ found. MatchOption found
         ((first second : List ℕ) → ¬ (IsNamed first ▸ IsNamed second ▸ IsSpaces) bytes.now)
@@ -146,22 +185,11 @@ fn read_two_names(alloc: Global, bytes: &[u8]) -> Result<Option<(Name, Name)>, N
     Ok(Some((first, second)))
 }
 
-// The name that the bytes are.
-fn read_name(alloc: Global, bytes: &[u8]) -> Result<Option<Name>, NoMemory>
+// The name and what is behind the `=` that follows it. Two passes over the name.
+fn read_bound_name(alloc: Global, bytes: &[u8]) -> Result<Option<(Name, &[u8])>, NoMemory>
     ensures { IfOk result (λ found. MatchOption found
-        ((name : List ℕ) → ¬ IsNamed name bytes.now) (λ name. IsNamed name bytes.now)) }
-{
-    if !is_name(bytes) {
-        return Ok(None);
-    }
-    Ok(Some(Name::from_slice(alloc, bytes)?))
-}
-
-// The name and the rows behind `let`. Six passes over the bytes.
-fn read_let(alloc: Global, bytes: &[u8]) -> Result<Option<(Name, Rows)>, NoMemory>
-    ensures { IfOk result (λ found. MatchOption found
-        ((name : List ℕ) (rows : List Row) → ¬ (IsNamed name ▸ Is (codes "=") ▸ AreRows rows ▸ IsSpaces) bytes.now)
-        (λ p. (IsNamed p.0 ▸ Is (codes "=") ▸ AreRows p.1 ▸ IsSpaces) bytes.now)) }
+        ((name rest : List ℕ) → ¬ (IsNamed name ▸ Is (codes "=") ▸ Is rest) bytes.now)
+        (λ p. (IsNamed p.0 ▸ Is (codes "=") ▸ Is p.1.now) bytes.now)) }
 {
     let Some((_, first, rest)) = first_token(bytes) else {
         return Ok(None);
@@ -175,8 +203,5 @@ fn read_let(alloc: Global, bytes: &[u8]) -> Result<Option<(Name, Rows)>, NoMemor
     let Some(name) = read_name(alloc, first)? else {
         return Ok(None);
     };
-    let Some(rows) = read_last_rows(alloc, behind)? else {
-        return Ok(None);
-    };
-    Ok(Some((name, rows)))
+    Ok(Some((name, behind)))
 }
