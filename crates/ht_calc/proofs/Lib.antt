@@ -1,4 +1,3 @@
-pub mod CanonicalTexts
 pub mod Ends
 pub mod LineSizes
 pub mod NameLaws

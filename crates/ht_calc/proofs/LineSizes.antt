@@ -21,7 +21,7 @@ use Rattle.ht_script.specs.declared.line.Line.TheVariants.{Blank, Group, Reduce,
 use Rattle.ht_script.specs.Tokens.{IsSpaces, Is, IsSpaced, ◌▸◌}
 use Rattle.ht_script.specs.Lines.{AreRows, IsNamed, IsLine}
 use Rattle.ht_calc.specs.ShortLines.{HasShortRows}
-use Rattle.ht_calc.proofs.CanonicalTexts.{pair_has_texts}
+use Rattle.ht_text.proofs.CanonicalTexts.{pair_has_texts}
 
 -- the text has a byte for each letter, and two where there are letters
 record IsLong (z text : List ℕ) (least : ℕ) : Type 0 where

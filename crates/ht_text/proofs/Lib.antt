@@ -1,5 +1,11 @@
+pub mod CanonicalTexts
 pub mod Cuts
+pub mod FileFronts
+pub mod FileLaws
+pub mod FileStops
+pub mod FileTexts
 pub mod FrontLaws
+pub mod LineLaws
 pub mod NumberFronts
 pub mod Numbers
 pub mod PlaceLaws

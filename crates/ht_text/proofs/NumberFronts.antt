@@ -15,7 +15,7 @@ use Rattle.ht_text.proofs.FrontLaws.{no_longer}
 digits_front : (digits : List ℕ) → length digits ≤ 4 → (0 < length digits → get_or digits 0 0 ≢ 48) → AllDigits 10 digits → IsFront IsNumText digits
 digits_front [] few first all = record { rest = decimal 0; text = (0, record { small = omega arith; is = refl }) }
 digits_front (d ∷ digits) few first all =
-    let form : HasForm (d ∷ digits) = record { some = omega arith; few = few; first = λ e. absurd (first (omega arith) e) } in
+    let form : HasForm 4 (d ∷ digits) = record { some = omega arith; few = few; first = λ e. absurd (first (omega arith) e) } in
     record {
       rest = [];
       text = (digits_value 10 (d ∷ digits), subst (λ t. IsNum t (digits_value 10 (d ∷ digits))) (sym (append-nil (d ∷ digits))) (num_of_digits (d ∷ digits) form all));

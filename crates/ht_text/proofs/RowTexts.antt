@@ -8,7 +8,7 @@ use Rattle.ht_pair.specs.declared.row.Row.{Row}
 use Rattle.ht_text.specs.Texts.{HasRowText, HasRowsText, IsWord, IsRow, IsRows, word_text, row_text, ended_text, rows_text}
 use Rattle.ht_text.specs.Writes.{AddsFront}
 use Rattle.ht_text.proofs.Cuts.{IsFree, free_one, free_append, same_cut, not_cut}
-use Rattle.ht_text.proofs.WordTexts.{word_free, same_word}
+use Rattle.ht_text.proofs.WordTexts.{IsNoWordByte, word_without, word_free, same_word}
 use Rattle.ht_text.proofs.Writing.{adds_within, adds_behind}
 
 -- rows before the last one
@@ -62,13 +62,18 @@ adds_row old out new rows before last row i within wrote split h =
     (adds_within old new (front_text (take i before) ++ ended_text (get_or before i row)) (front_text (drop (i + 1) before)) behind) in
     subst (λ t. AddsFront old new t) (sym (front_and_last before last) ∙ ap rows_text (sym split)) (adds_within old new (front_text before) (row_text last) part)
 
+-- a byte that no text of a row has
+pub row_without : (x : ℕ) (row : Row) → HasRowText row → IsNoWordByte x → 62 ≢ x → IsFree x (row_text row)
+row_without x row h out no_arrow =
+    free_append x (word_text row.from ++ 62 ∷ []) (word_text row.to)
+    (free_append x (word_text row.from) (62 ∷ []) (word_without x row.from h.from out) (free_one x 62 no_arrow))
+    (word_without x row.to h.to out)
+
 -- the text of a row has no `;`
 row_free : (bytes : List ℕ) (row : Row) → IsRow bytes row → IsFree 59 bytes
 row_free bytes row h =
     subst (λ t. IsFree 59 t) (sym h.is)
-    (free_append 59 (word_text row.from ++ 62 ∷ []) (word_text row.to)
-    (free_append 59 (word_text row.from) (62 ∷ []) (word_free 59 row.from h.has_text.from (omega arith) (omega arith)) (free_one 59 62 (λ e. absurd (omega arith))))
-    (word_free 59 row.to h.has_text.to (omega arith) (omega arith)))
+    (row_without 59 row h.has_text (record { no_point = λ e. absurd (omega arith); no_mark = λ e. absurd (omega arith); no_digit = λ r. absurd (omega arith) }) (λ e. absurd (omega arith)))
 
 -- the words of a row are round its `>`
 row_cut : (bytes : List ℕ) (row : Row) → IsRow bytes row → bytes ≡ word_text row.from ++ 62 ∷ word_text row.to
@@ -174,7 +179,7 @@ row_eq : {r s : Row} → r.from ≡ s.from → r.to ≡ s.to → r ≡ s
 row_eq p q = λ i. record { from = p i; to = q i }
 
 -- bytes are one row at most
-same_row : (bytes : List ℕ) (r s : Row) → IsRow bytes r → IsRow bytes s → r ≡ s
+pub same_row : (bytes : List ℕ) (r s : Row) → IsRow bytes r → IsRow bytes s → r ≡ s
 same_row bytes r s g h =
     let free = word_free 62 r.from g.has_text.from (omega arith) (omega arith) in
     let words = row_words (word_text r.from) (word_text r.to) s free (subst (λ t. IsRow t s) (row_cut bytes r g) h) in

@@ -61,7 +61,7 @@ word_end (b ∷ []) h = absurd h.1
 word_end (b ∷ c ∷ tail) h = by_point b c tail h.0 (letters_of (c ∷ tail) h.1)
 
 -- digits of the form of a number, but for 0, are a root
-root_of_digits : (digits tail : List ℕ) → HasForm digits → AllDigits 10 digits → get_or digits 0 0 ≢ 48 → EndsWord tail → EndsMark (digits ++ tail)
+root_of_digits : (digits tail : List ℕ) → HasForm 4 digits → AllDigits 10 digits → get_or digits 0 0 ≢ 48 → EndsWord tail → EndsMark (digits ++ tail)
 root_of_digits [] tail form all first ends = let some : 0 < 0 = form.some in absurd (omega arith)
 root_of_digits (d ∷ digits) tail form all first ends =
     let range = digit_byte d all.0 in
@@ -87,7 +87,7 @@ positive d digits zero num low = let same : d ∷ digits ≡ 48 ∷ [] = num.is 
 positive d digits (suc n) num low = omega arith
 
 -- digits of a root have the form of a number
-digits_form : (d : ℕ) (digits : List ℕ) → 49 ≤ d → length digits ≤ 3 → HasForm (d ∷ digits)
+digits_form : (d : ℕ) (digits : List ℕ) → 49 ≤ d → length digits ≤ 3 → HasForm 4 (d ∷ digits)
 digits_form d digits low few = record { some = omega arith; few = omega arith; first = λ e. absurd (omega arith) }
 
 -- a root and what ends a word stand for a word

@@ -1,6 +1,7 @@
 -- Texts of words, in their parts.
 use Rattle.std.proofs.Common.{◌≡◌, ◌≢◌, ◌<◌, ◌≤◌, ℕ, ◌+◌, ◌⊎◌, inl, inr, List, [], ◌∷◌, ◌++◌, get_or, length, refl, sym, ap, ◌∙◌, subst, arith, append-nil, append_assoc, take, drop}
 use Rattle.std.specs.Prelude.{All, decimal, map}
+use Rattle.std.specs.Int.{IsInRange}
 use Rattle.std.proofs.lemmas.List.{get_or-map, length-map, map-append, take-append-drop}
 use Rattle.std.proofs.lemmas.List.Elements.{All-nil, All-map}
 use Rattle.ht_word.specs.declared.word.Word.{Word}
@@ -10,19 +11,33 @@ use Rattle.ht_text.specs.Writes.{AddsFront}
 use Rattle.ht_text.proofs.Numbers.{num_free, same_num}
 use Rattle.ht_text.proofs.Cuts.{IsFree, free_one, free_append, same_cut, not_cut}
 
--- bytes above the digits aren't in the text of letters
-letters_free : (x : ℕ) (z : List ℕ) → All IsDigitLetter z → 57 < x → IsFree x (letters_text z)
-letters_free x [] h high = All-nil (λ b. b ≢ x)
-letters_free x (a ∷ z) h high =
-    free_append x (46 ∷ []) (map letter_code (a ∷ z)) (free_one x 46 (λ e. absurd (omega arith)))
-    (All-map (λ b. b ≢ x) letter_code (a ∷ z) (λ k d l e. let small : get_or (a ∷ z) k d ≤ 9 = (h k d l).1 in absurd (omega arith)))
+-- a byte that no text of a word has
+pub record IsNoWordByte (x : ℕ) : Type 0 where
+  pub no_point : 46 ≢ x
+  pub no_mark : 120 ≢ x
+  pub no_digit : ¬ IsInRange 48 57 x
 
--- bytes that aren't in the text of a word
-pub word_free : (x : ℕ) (w : Word) → HasText w → 57 < x → x < 120 → IsFree x (word_text w)
-word_free x w h high low =
+-- it isn't in the text of letters
+letters_free : (x : ℕ) (z : List ℕ) → All IsDigitLetter z → IsNoWordByte x → IsFree x (letters_text z)
+letters_free x [] h out = All-nil (λ b. b ≢ x)
+letters_free x (a ∷ z) h out =
+    free_append x (46 ∷ []) (map letter_code (a ∷ z)) (free_one x 46 out.no_point)
+    (All-map (λ b. b ≢ x) letter_code (a ∷ z) (λ k d l e. let digit = h k d l in out.no_digit (omega arith, omega arith)))
+
+-- nor in the text of a word
+pub word_without : (x : ℕ) (w : Word) → HasText w → IsNoWordByte x → IsFree x (word_text w)
+word_without x w h out =
     free_append x (120 ∷ decimal w.root) (letters_text w.letters)
-    (free_append x (120 ∷ []) (decimal w.root) (free_one x 120 (λ e. absurd (omega arith))) (num_free x (decimal w.root) w.root (record { small = h.root_high; is = refl }) (λ r. absurd (omega arith))))
-    (letters_free x w.letters h.letters high)
+    (free_append x (120 ∷ []) (decimal w.root) (free_one x 120 out.no_mark) (num_free x (decimal w.root) w.root (record { small = h.root_high; is = refl }) out.no_digit))
+    (letters_free x w.letters h.letters out)
+
+-- bytes between the digits and the mark are such bytes
+pub word_free : (x : ℕ) (w : Word) → HasText w → 57 < x → x < 120 → IsFree x (word_text w)
+word_free x w h high low = word_without x w h (record {
+  no_point = λ e. absurd (omega arith);
+  no_mark = λ e. absurd (omega arith);
+  no_digit = λ r. absurd (omega arith);
+})
 
 -- each byte of letters is from 49 to 57
 pub letter_at : (bytes z : List ℕ) (i : ℕ) → AreLetters bytes z → i < length bytes → (49 ≤ get_or bytes i 0) × (get_or bytes i 0 ≤ 57)

@@ -1,6 +1,7 @@
 -- Texts of numbers, words and rows. Each value that has a text has one, and no two values share it.
 --
 --     IsNum bytes n        bytes are the number n: at most four digits, no 0 before another digit
+--     IsNumUpTo most bytes n   bytes are the number n: at most so many digits, no 0 before another digit
 --     IsDigitLetter a      the letter a is from 1 to 9, so that its text is one digit
 --     HasText w            the word w has a text: a root of at most four digits, letters from 1 to 9
 --     letter_code a        the code of the letter's digit
@@ -16,13 +17,17 @@
 --     HasRowsText rows     each row has a text
 --     IsRow bytes row      bytes are the text of the row
 --     IsRows bytes rows    bytes are the text of the rows, at least one
---     HasForm bytes        there are one to four bytes, and no 0 before another
+--     HasForm most bytes   there is a byte, at most so many, and no 0 before another
 use Rattle.std.specs.Prelude.{◌≡◌, ◌≢◌, ℕ, ◌+◌, ◌<◌, ◌≤◌, ◌^◌, List, [], ◌∷◌, ◌++◌, All, length, slice_index, codes, decimal, map}
 use Rattle.ht_word.specs.declared.word.Word.{Word}
 use Rattle.ht_pair.specs.declared.row.Row.{Row}
 
 pub record IsNum (bytes : List ℕ) (n : ℕ) : Type 0 where
   pub small : n < 10 ^ 4
+  pub is : bytes ≡ decimal n
+
+pub record IsNumUpTo (most : ℕ) (bytes : List ℕ) (n : ℕ) : Type 0 where
+  pub small : n < 10 ^ most
   pub is : bytes ≡ decimal n
 
 abbrev pub IsDigitLetter : ℕ → Type 0
@@ -83,7 +88,7 @@ pub record IsRows (bytes : List ℕ) (rows : List Row) : Type 0 where
   pub have_texts : HasRowsText rows
   pub is : bytes ≡ rows_text rows
 
-pub record HasForm (bytes : List ℕ) : Type 0 where
+pub record HasForm (most : ℕ) (bytes : List ℕ) : Type 0 where
   pub some : 0 < length bytes
-  pub few : length bytes ≤ 4
+  pub few : length bytes ≤ most
   pub first : slice_index bytes 0 ≡ 48 → length bytes ≡ 1

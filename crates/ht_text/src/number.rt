@@ -1,6 +1,6 @@
 //! Texts of numbers: one to four decimal digits, and no 0 before another.
-ghost use Rattle.std.specs.Prelude.{◌≡◌, ◌++◌, ℕ, ◌↔◌, MatchOption, IsTrue, OnOk, OnErr, decimal};
-ghost use Rattle.ht_text.specs.Texts.{IsNum, HasForm};
+ghost use Rattle.std.specs.Prelude.{◌≡◌, ◌++◌, ◌≤◌, ℕ, ◌↔◌, MatchOption, IsTrue, OnOk, OnErr, decimal};
+ghost use Rattle.ht_text.specs.Texts.{IsNum, IsNumUpTo, HasForm};
 ghost use Rattle.ht_text.specs.Writes.{AddsFront};
 
 use ht_word::NoMemory;
@@ -11,7 +11,16 @@ use itoa::Buffer;
 pub fn read_num(bytes: &[u8]) -> Option<u32>
     ensures { MatchOption result ((n : ℕ) → ¬ IsNum bytes.now n) (IsNum bytes.now) }
 {
-    if !has_form(bytes) {
+    read_digits(bytes, 4)
+}
+
+// The number that the bytes are the text of, with at most so many digits. Constant time.
+pub(crate) fn read_digits(bytes: &[u8], most: usize) -> Option<u32>
+    requires some { 1 ≤ most }
+    requires few { most ≤ 6 }
+    ensures { MatchOption result ((n : ℕ) → ¬ IsNumUpTo most bytes.now n) (IsNumUpTo most bytes.now) }
+{
+    if !has_form(bytes, most) {
         return None;
     }
     let mut value = 0u32;
@@ -24,14 +33,15 @@ pub fn read_num(bytes: &[u8]) -> Option<u32>
     Some(value)
 }
 
-// There are one to four bytes, and no 0 before another.
-fn has_form(bytes: &[u8]) -> bool
-    ensures { IsTrue result ↔ HasForm bytes.now }
+// There is a byte, at most so many, and no 0 before another.
+fn has_form(bytes: &[u8], most: usize) -> bool
+    requires { 1 ≤ most }
+    ensures { IsTrue result ↔ HasForm most bytes.now }
 {
     match bytes {
         [] => false,
         [b'0'] => true,
-        [first, ..] => *first != b'0' && bytes.len() <= 4,
+        [first, ..] => *first != b'0' && bytes.len() <= most,
     }
 }
 

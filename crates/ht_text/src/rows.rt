@@ -38,7 +38,7 @@ fn write_ended(row: &Row, out: &mut Vec<u8>) -> Result<(), NoMemory>
 }
 
 // Appends the text of a row.
-fn write_row(row: &Row, out: &mut Vec<u8>) -> Result<(), NoMemory>
+pub(crate) fn write_row(row: &Row, out: &mut Vec<u8>) -> Result<(), NoMemory>
     requires { HasRowText row.now }
     ensures ok { OnOk result (out.new.items ≡ out.old.items ++ row_text row.now) }
     ensures err { OnErr result (AddsFront out.old.items out.new.items (row_text row.now)) }
@@ -70,7 +70,7 @@ pub fn read_rows(alloc: Global, bytes: &[u8]) -> Result<Option<Rows>, NoMemory>
 }
 
 // The row that the bytes are the text of. Three passes over them.
-fn read_row(alloc: Global, bytes: &[u8]) -> Result<Option<Row>, NoMemory>
+pub(crate) fn read_row(alloc: Global, bytes: &[u8]) -> Result<Option<Row>, NoMemory>
     ensures { IfOk result (λ found. MatchOption found ((row : Row) → ¬ IsRow bytes.now row) (IsRow bytes.now)) }
 {
     let Some((first, second)) = cut(bytes, b'>') else {

@@ -7,7 +7,7 @@ use Rattle.ht_answer.specs.declared.answer.Answer.TheVariants.{Pair, Refused}
 use Rattle.ht_answer.specs.declared.answer.Refusal.TheVariants as refusal
 use Rattle.ht_calc.specs.States.{State}
 use Rattle.ht_calc.specs.Steps.{Does, before_group, reduced, reduce_refused}
-use Rattle.ht_calc.proofs.CanonicalTexts.{pair_has_texts}
+use Rattle.ht_text.proofs.CanonicalTexts.{pair_has_texts}
 use Rattle.ht_calc.proofs.LineSizes.{never_large}
 use Rattle.ht_calc.proofs.session.Session.reduce.Goals as goal
 

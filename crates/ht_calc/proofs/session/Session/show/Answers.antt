@@ -6,7 +6,7 @@ use Rattle.ht_answer.specs.declared.answer.Answer.TheVariants.{Pair, Refused}
 use Rattle.ht_answer.specs.declared.answer.Refusal.TheVariants as refusal
 use Rattle.ht_calc.specs.States.{State}
 use Rattle.ht_calc.specs.Steps.{Does, before_group, shown, show_unbound}
-use Rattle.ht_calc.proofs.CanonicalTexts.{pair_has_texts}
+use Rattle.ht_text.proofs.CanonicalTexts.{pair_has_texts}
 use Rattle.ht_calc.proofs.NameLaws.{rows_of, bound_rows}
 use Rattle.ht_calc.proofs.session.Session.show.Goals as goal
 

@@ -5,16 +5,16 @@ use Rattle.std.specs.Str.Parse.{digits_value}
 use Rattle.std.proofs.lemmas.Int.Digits.{digits_more, digits_value_more, digits_value-lt}
 use Rattle.std.proofs.lemmas.List.{take_all}
 use Rattle.std.proofs.lemmas.Str.Parse.{digit_at}
-use Rattle.ht_text.specs.Texts.{IsNum}
-use Rattle.ht_text.proofs.Numbers.{form_of_num, digits_of_num, num_of_digits, value_of_digit}
-use Rattle.ht_text.proofs.number.read_num.Goals as goal
+use Rattle.ht_text.specs.Texts.{IsNumUpTo}
+use Rattle.ht_text.proofs.Numbers.{form_of_digits, all_digits, number_of_digits, value_of_digit}
+use Rattle.ht_text.proofs.number.read_digits.Goals as goal
 
 pub returns-then-not-has_form : goal.returns-then-not-has_form
-returns-then-not-has_form c = λ n h. let yes = c.if-not-has_form.ensures.1 (form_of_num c.args.bytes.now n h) in cc
+returns-then-not-has_form c = λ n h. let yes = c.if-not-has_form.ensures.1 (form_of_digits c.args.most c.args.bytes.now n c.requires.some c.requires.few h) in cc
 
 pub returns-then-not-is_ascii_digit : goal.returns-then-not-is_ascii_digit
 returns-then-not-is_ascii_digit c = λ n h.
-    let within = digit_at c.args.bytes.now c.loop-b.b-index (digits_of_num c.args.bytes.now n h) (omega arith) in
+    let within = digit_at c.args.bytes.now c.loop-b.b-index (all_digits c.args.most c.args.bytes.now n c.requires.few h) (omega arith) in
     let out = c.if-not-is_ascii_digit.ensures.cases in
     omega arith
 
@@ -36,4 +36,4 @@ returns c =
     let whole : take c.loop-b.b-index c.args.bytes.now ≡ c.args.bytes.now = take_all c.loop-b.b-index c.args.bytes.now (omega arith) in
     let all = rw whole at c.loop-b.invariant.0 in
     let value = rw whole at c.loop-b.invariant.1 in
-    subst (λ v. IsNum c.args.bytes.now v) (sym value) (num_of_digits c.args.bytes.now (c.if-not-has_form.ensures.0 refl) all)
+    subst (λ v. IsNumUpTo c.args.most c.args.bytes.now v) (sym value) (number_of_digits c.args.most c.args.bytes.now c.requires.few (c.if-not-has_form.ensures.0 refl) all)

@@ -1,6 +1,6 @@
 use Rattle.std.proofs.Common.{◌≡◌, ◌<◌, ◌^◌, take}
 use Rattle.std.specs.Str.Parse.{digits_value, AllDigits}
-use Rattle.ht_text.proofs.number.read_num.Given as goal
+use Rattle.ht_text.proofs.number.read_digits.Given as goal
 
 abbrev pub invariant-loop-b : goal.invariant-loop-b
 invariant-loop-b l =
