@@ -109,17 +109,28 @@ basis_single shape X b u x y c e h g = elim (under_both h g) [
 pub basis_word : (shape : Shape) (X : List Word) → IsBasis shape X → (x : Word) → Contains X x → IsWordOf shape x
 basis_word shape X b x c = All-contains (IsWordOf shape) X x b.words c
 
--- a list of words of the shape is a basis where it is prefix-free and each word from some length on is under it
+-- a word with no fewer letters than each word of W is under one where it is so with more letters
+pub some_shorter : (W : List Word) (u : Word) (z : List ℕ) → longest W ≤ length u.letters → IsUnderSome (u · z) W → IsUnderSome u W
+some_shorter W u z l s = some_at W s.above u s.listed (elim (under_both (under_after u z) s.under) [
+  | inl g ↦ g
+  | inr g ↦ subst (λ t. IsUnder t s.above) (under_same g (omega (arith, longest_bounds W s.above s.listed))) (under_refl s.above)
+])
+
+-- a prefix-free list of words of the shape covers V where the words from some length on that are under it are those under V
+pub covers_from : (shape : Shape) (W V : List Word) → All (IsWordOf shape) W → IsPrefixFree W → (k : ℕ) → ((u : Word) → IsWordOf shape u → k ≤ length u.letters → IsUnderSome u W ↔ IsUnderSome u V) → Covers shape W V
+covers_from shape W V words free k long = record {
+  words = words;
+  prefix_free = free;
+  same = λ u h l.
+      let same = long (u · ones k) (word_after shape u (ones k) h (ones_letters shape k)) (omega (arith, length-after u (ones k), length-ones k)) in (
+        (λ s. some_shorter V u (ones k) (omega arith) (same.0 (some_trans (under_after u (ones k)) s))),
+        (λ s. some_shorter W u (ones k) (omega arith) (same.1 (some_trans (under_after u (ones k)) s))),
+      );
+}
+
+-- it is a basis where each word from some length on is under it
 pub basis_from : (shape : Shape) (X : List Word) → All (IsWordOf shape) X → IsPrefixFree X → (k : ℕ) → ((u : Word) → IsWordOf shape u → k ≤ length u.letters → IsUnderSome u X) → IsBasis shape X
-basis_from shape X words free k long = record { words = words; prefix_free = free; same = λ u h l. ((λ s. under_roots shape u h), (λ s. found u h (omega arith))) }
-  where
-    found : (u : Word) → IsWordOf shape u → longest X ≤ length u.letters → IsUnderSome u X
-    found u h l =
-        let s = long (u · ones k) (word_after shape u (ones k) h (ones_letters shape k)) (omega (arith, length-after u (ones k), length-ones k)) in
-        some_at X s.above u s.listed (elim (under_both (under_after u (ones k)) s.under) [
-          | inl g ↦ g
-          | inr g ↦ subst (λ t. IsUnder t s.above) (under_same g (omega (arith, longest_bounds X s.above s.listed))) (under_refl s.above)
-        ])
+basis_from shape X words free k long = covers_from shape X (roots shape) words free k (λ u h l. ((λ s. under_roots shape u h), (λ s. long u h l)))
 
 -- ---- the roots are a basis
 

@@ -1,33 +1,41 @@
--- The canonical pair of a sorted pair: all merges made along the rows.
+-- All merges made along the rows of a table; those of a pair make its canonical pair.
 use Rattle.std.proofs.Common.{◌≤◌, List, [], ◌∷◌, ◌++◌, map, sym, subst, append_assoc, append-nil, arith, Contains, IsPermutation}
-use Rattle.std.proofs.lemmas.List.Elements.{Contains-append_left}
+use Rattle.std.proofs.lemmas.List.Elements.{All-contains, Contains-append_left}
 use Rattle.std.proofs.lemmas.List.Sorted.{Contains-permutation, IsPermutation-sym, length_permutation}
 use Rattle.ht_word.specs.declared.word.Word.{Word}
 use Rattle.ht_word.specs.declared.shape.Shape.{Shape}
-use Rattle.ht_word.specs.Words.{IsAscending}
-use Rattle.ht_word.proofs.ListLaws.{Contains-nil, Contains-map, contained_in_map, AllPairs-from_map}
+use Rattle.ht_word.specs.Words.{IsWordOf, IsAscending}
+use Rattle.ht_word.proofs.ListLaws.{Contains-nil, Contains-map, contained_in_map, AllPairs-map, AllPairs-from_map}
 use Rattle.ht_pair.specs.declared.row.Row.{Row}
 use Rattle.ht_pair.specs.Bases.{longest}
 use Rattle.ht_pair.specs.Pairs.{IsPair, from_words}
 use Rattle.ht_pair.specs.Actions.{Moves, child_row, IsReduced}
 use Rattle.ht_pair.specs.Merges.{Merges, IsAdded, IsReducedOf}
 use Rattle.ht_pair.specs.Merges.Merges.{unmerged}
-use Rattle.ht_pair.proofs.BasisLaws.{basis_word, longest_bounds, longest_least}
-use Rattle.ht_pair.proofs.ConeOrder.{IsBefore, before_from, before_less}
-use Rattle.ht_pair.proofs.Siblings.{AreOrdered, ordered_front}
+use Rattle.ht_pair.specs.Tables.{IsTable, IsMergedTable}
+use Rattle.ht_pair.proofs.BasisLaws.{longest_bounds, longest_least}
+use Rattle.ht_pair.proofs.ConeOrder.{IsBefore, before_from, before_less, before_apart}
+use Rattle.ht_pair.proofs.Siblings.{AreOrdered, ordered_words, ordered_front}
 use Rattle.ht_pair.proofs.Carets.{still_reduced}
-use Rattle.ht_pair.proofs.MergeLaws.{IsOrderedPair, merges_ordered, merges_fewer, merges_shorter, merges_moves, merges_then, merges_behind}
+use Rattle.ht_pair.proofs.MergeLaws.{merges_ordered, merges_pair, merges_fewer, merges_shorter, merges_moves, merges_then, merges_behind}
 use Rattle.ht_pair.proofs.MovesLaws.{moves_single}
 
--- a prefix-free ascending list is in order of cones
-pub ordered_pair : (shape : Shape) (p : List Row) → IsPair shape p → IsAscending (from_words p) → IsOrderedPair shape p
-ordered_pair shape p pair ascending = record { pair = pair; before = λ i j d l m. before_from _ _ (ascending i j d l m) (pair.from.prefix_free i j d l m) }
-
-ordered_rows : (shape : Shape) (p : List Row) → IsOrderedPair shape p → AreOrdered shape p
-ordered_rows shape p h = record {
-  words = λ row c. basis_word shape (from_words p) h.pair.from row.from (Contains-map (λ (t : Row). t.from) p row c);
-  before = AllPairs-from_map (λ (t : Row). t.from) IsBefore p h.before;
+-- the rows of a table are in order of cones
+pub ordered_table : (shape : Shape) (p : List Row) → IsTable shape p → AreOrdered shape p
+ordered_table shape p h = record {
+  words = λ row c. All-contains (IsWordOf shape) (from_words p) row.from h.words (Contains-map (λ (t : Row). t.from) p row c);
+  before = AllPairs-from_map (λ (t : Row). t.from) IsBefore p (λ i j d l m. before_from _ _ (h.ascending i j d l m) (h.prefix_free i j d l m));
 }
+
+-- and the other way round
+pub table_ordered : (shape : Shape) (p : List Row) → AreOrdered shape p → IsTable shape p
+table_ordered shape p h =
+    let before = AllPairs-map (λ (t : Row). t.from) IsBefore p h.before in
+    record { words = ordered_words shape p h; prefix_free = λ i j d l m. before_apart _ _ (before i j d l m); ascending = λ i j d l m. before_less _ _ (before i j d l m) }
+
+-- an ascending pair is a table
+pub pair_table : (shape : Shape) (p : List Row) → IsPair shape p → IsAscending (from_words p) → IsTable shape p
+pair_table shape p pair ascending = record { words = pair.from.words; prefix_free = pair.from.prefix_free; ascending = ascending }
 
 -- the rows up to the rest have been merged
 pub record AreMergedUpTo (shape : Shape) (rows done rest : List Row) : Type 0 where
@@ -39,31 +47,34 @@ pub none_merged : (shape : Shape) (rows : List Row) → AreMergedUpTo shape rows
 none_merged shape rows = record { merges = unmerged; reduced = λ u v all. Contains-nil (child_row u v 1) (all 1 (omega arith) (omega (arith, shape.letters_low))) }
 
 -- and after one more row
-pub one_more_merged : (shape : Shape) (rows done rest added : List Row) (row : Row) → IsOrderedPair shape rows → AreMergedUpTo shape rows done (row ∷ rest) → IsAdded shape done row added → AreMergedUpTo shape rows added rest
+pub one_more_merged : (shape : Shape) (rows done rest added : List Row) (row : Row) → AreOrdered shape rows → AreMergedUpTo shape rows done (row ∷ rest) → IsAdded shape done row added → AreMergedUpTo shape rows added rest
 one_more_merged shape rows done rest added row ordered h step =
     let before : Merges shape rows ((done ++ row ∷ []) ++ rest) = subst (Merges shape rows) (sym (append_assoc done (row ∷ []) rest)) h.merges in
     let after : Merges shape ((done ++ row ∷ []) ++ rest) (added ++ rest) = merges_behind shape (done ++ row ∷ []) added rest (subst (Merges shape (done ++ row ∷ [])) (sym step.added_is) step.down.merges) in
     let merges : Merges shape rows (added ++ rest) = merges_then shape rows ((done ++ row ∷ []) ++ rest) (added ++ rest) before after in
-    let all_ordered : AreOrdered shape added = ordered_front shape added rest (ordered_rows shape (added ++ rest) (merges_ordered shape rows (added ++ rest) merges ordered)) in
+    let all_ordered : AreOrdered shape added = ordered_front shape added rest (merges_ordered shape rows (added ++ rest) merges ordered) in
     let front_reduced : IsReduced shape step.front = λ u v all. h.reduced u v (λ a low high. subst (λ t. Contains t (child_row u v a)) (sym step.down.rows_are) (Contains-append_left step.front step.down.taken (child_row u v a) (all a low high))) in
     record {
       merges = merges;
       reduced = subst (IsReduced shape) (sym step.added_is) (still_reduced shape step.front step.last (subst (AreOrdered shape) step.added_is all_ordered) front_reduced step.open_end);
     }
 
--- where all rows have been merged, they are the canonical pair
-pub all_merged : (shape : Shape) (p q : List Row) → IsOrderedPair shape p → AreMergedUpTo shape p q [] → IsReducedOf shape p q
+-- where all rows have been merged, they are a reduced table
+pub all_merged : (shape : Shape) (p q : List Row) → AreOrdered shape p → AreMergedUpTo shape p q [] → IsMergedTable shape p q
 all_merged shape p q before h =
     let merges : Merges shape p q = subst (Merges shape p) (append-nil q) h.merges in
-    let ordered : IsOrderedPair shape q = merges_ordered shape p q merges before in
-    record {
-      canonical = record {
-        form = record { pair = ordered.pair; reduced = h.reduced; ascending = λ i j d l m. before_less _ _ (ordered.before i j d l m) };
-        alike = λ w v v' k m m'. moves_single q ordered.pair.from.prefix_free w v v' m (merges_moves shape p q merges w v' m');
-      };
-      fewer = merges_fewer shape p q merges;
-      shorter = merges_shorter shape p q merges;
-    }
+    record { merges = merges; table = table_ordered shape q (merges_ordered shape p q merges before); reduced = h.reduced }
+
+-- which is the canonical pair, where the rows are a pair
+pub merged_pair : (shape : Shape) (p q : List Row) → IsPair shape p → IsMergedTable shape p q → IsReducedOf shape p q
+merged_pair shape p q pair h = record {
+  canonical = record {
+    form = record { pair = merges_pair shape p q h.merges pair; reduced = h.reduced; ascending = h.table.ascending };
+    alike = λ w v v' k m m'. moves_single q h.table.prefix_free w v v' m (merges_moves shape p q h.merges w v' m');
+  };
+  fewer = merges_fewer shape p q h.merges;
+  shorter = merges_shorter shape p q h.merges;
+}
 
 -- ---- rows in another order
 

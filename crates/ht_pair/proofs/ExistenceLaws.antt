@@ -16,14 +16,14 @@ use Rattle.ht_pair.specs.Pairs.{from_words, to_words, IsPair}
 use Rattle.ht_pair.specs.declared.row.Row.{Row}
 use Rattle.ht_pair.proofs.AlikeLaws.{alike_trans}
 use Rattle.ht_pair.proofs.BasisLaws.{front, basis_holds, basis_word, basis_from}
-use Rattle.ht_pair.proofs.Canonical.{AreMergedUpTo, none_merged, one_more_merged, all_merged, longest_within}
+use Rattle.ht_pair.proofs.Canonical.{AreMergedUpTo, none_merged, one_more_merged, all_merged, merged_pair, longest_within}
 use Rattle.ht_pair.proofs.Carets.{long_enough, caret_merged}
 use Rattle.ht_pair.proofs.ConeOrder.{IsBefore, before_irreflexive}
 use Rattle.ht_pair.proofs.CountLaws.{no_more}
-use Rattle.ht_pair.proofs.MergeLaws.{IsOrderedPair}
 use Rattle.ht_pair.proofs.MovesLaws.{moves_single}
 use Rattle.ht_pair.proofs.OrderedBasisLaws.{IsOrdered, ordered, ordered_basis}
 use Rattle.ht_pair.proofs.Sequences.{length-each}
+use Rattle.ht_pair.proofs.Siblings.{AreOrdered}
 
 -- ---- whether a row closes a caret
 
@@ -73,7 +73,7 @@ added_from shape (suc fuel) rows row front last l steps = elim (caret_or_not sha
     fewer_left h = omega (arith, l, shape.letters_low, ap (λ (t : List Row). length t) h.rows_are, length-append h.before (child_rows h.from h.to (shape.n - 1)), length-each (child_row h.from h.to) (shape.n - 1))
 
 -- row by row all merges can be made
-merged_along : (shape : Shape) (rows : List Row) → IsOrderedPair shape rows → (rest done : List Row) → AreMergedUpTo shape rows done rest → (q : List Row) × AreMergedUpTo shape rows q []
+merged_along : (shape : Shape) (rows : List Row) → AreOrdered shape rows → (rest done : List Row) → AreMergedUpTo shape rows done rest → (q : List Row) × AreMergedUpTo shape rows q []
 merged_along shape rows ordered [] done h = (done, h)
 merged_along shape rows ordered (row ∷ rest) done h =
     let added = added_from shape (length done) done row done row (le_refl (length done)) (record { merges = unmerged; taken = []; rows_are = sym (append-nil done) }) in
@@ -102,6 +102,11 @@ rows_from p (w ∷ V) all =
 -- rows of a pair that go from the same word are one row
 from_once : (shape : Shape) (p : List Row) → IsPair shape p → (x y : Row) → Contains p x → Contains p y → x.from ≡ y.from → x ≡ y
 from_once shape p pair x y c d e = same_by_map (λ (t : Row). t.from) AreApart p pair.from.prefix_free x y c d (λ k. k.0 (subst (λ t. IsUnder x.from t) e (under_refl x.from))) (λ k. k.1 (subst (λ t. IsUnder x.from t) e (under_refl x.from)))
+
+-- a pair with its rows in order
+record IsOrderedPair (shape : Shape) (p : List Row) : Type 0 where
+  pair : IsPair shape p
+  before : AllPairs IsBefore (from_words p)
 
 -- the rows in order are a pair
 ordered_is_pair : (shape : Shape) (p : List Row) (V : List Word) (q : List Row) → IsPair shape p → IsOrdered (from_words p) V → HasFrom p V q → IsOrderedPair shape q
@@ -158,8 +163,12 @@ reduced_exists shape p pair =
     let V = ordered (from_words p) pair.from.prefix_free in
     let rows = rows_from p V.0 V.1.from in
     let in_order = ordered_is_pair shape p V.0 rows.0 pair V.1 rows.1 in
-    let q = merged_along shape rows.0 in_order rows.0 [] (none_merged shape rows.0) in
-    let merged = all_merged shape rows.0 q.0 in_order q.1 in
+    let rows_in_order : AreOrdered shape rows.0 = record {
+      words = λ row c. basis_word shape (from_words rows.0) in_order.pair.from row.from (Contains-map (λ (t : Row). t.from) rows.0 row c);
+      before = AllPairs-from_map (λ (t : Row). t.from) IsBefore rows.0 in_order.before;
+    } in
+    let q = merged_along shape rows.0 rows_in_order rows.0 [] (none_merged shape rows.0) in
+    let merged = merged_pair shape rows.0 q.0 in_order.pair (all_merged shape rows.0 q.0 rows_in_order q.1) in
     let canonical = merged.canonical in
     let same : Alike shape rows.0 p = λ w v v' word f g. moves_single p pair.from.prefix_free w v v' (record { row = f.row; rest = f.rest; listed = rows.1.listed f.row f.listed; from = f.from; to = f.to }) g in (
       q.0,

@@ -1,22 +1,23 @@
--- What merges keep: pairs, the order of the rows, moves; and rows and letters become no more.
+-- What merges keep: covers, pairs, the order of the rows, moves; and rows and letters become no more.
 use Rattle.std.proofs.Common.{◌≡◌, ℕ, ◌≤◌, ◌⊎◌, inl, inr, List, [], ◌∷◌, ◌++◌, length, map, sym, ap, ◌∙◌, subst, append_assoc, arith, All, AllPairs, Contains}
 use Rattle.std.proofs.lemmas.List.{length-append, map-append}
 use Rattle.std.proofs.lemmas.List.Elements.{All-contains, Contains-append_left, Contains-append_right, Contains-append_cases}
 use Rattle.ht_word.specs.declared.word.Word.{Word}
 use Rattle.ht_word.specs.declared.shape.Shape.{Shape}
-use Rattle.ht_word.specs.Words.{◌·◌, child}
+use Rattle.ht_word.specs.Words.{◌·◌, child, IsWordOf}
 use Rattle.ht_word.proofs.WordLaws.{after-append, after-nil, length-after, All-from_contains}
-use Rattle.ht_word.proofs.ListLaws.{Contains-here, Contains-there, Contains-cons_cases, AllPairs-left, AllPairs-right, AllPairs-across, AllPairs-head, AllPairs-cons, AllPairs-append}
+use Rattle.ht_word.proofs.ListLaws.{Contains-here, Contains-there, Contains-cons_cases, Contains-map, AllPairs-left, AllPairs-right, AllPairs-across, AllPairs-head, AllPairs-cons, AllPairs-append, AllPairs-map, AllPairs-from_map}
 use Rattle.ht_pair.specs.declared.row.Row.{Row}
-use Rattle.ht_pair.specs.Bases.{AreApart, IsPrefixFree, longest, IsBasis}
+use Rattle.ht_pair.specs.Bases.{AreApart, IsPrefixFree, longest, roots, Covers}
 use Rattle.ht_pair.specs.Pairs.{IsPair, from_words, to_words, longest_of}
 use Rattle.ht_pair.specs.Actions.{Moves, child_row}
 use Rattle.ht_pair.specs.Merges.{each_to, child_rows, Merges}
 use Rattle.ht_pair.specs.Merges.Merges.{unmerged, merged}
 use Rattle.ht_pair.proofs.BasisLaws.{children_to, children_hold, longest_bounds, longest_least}
-use Rattle.ht_pair.proofs.Merging.{in_merged, first_child, basis_merged}
-use Rattle.ht_pair.proofs.ConeOrder.{IsBefore, before_irreflexive, before_trans, before_extended, apart_before}
-use Rattle.ht_pair.proofs.Sequences.{each_of, length-each, each-map}
+use Rattle.ht_pair.proofs.Merging.{in_merged, first_child, words_merged, free_merged, covers_merged}
+use Rattle.ht_pair.proofs.ConeOrder.{IsBefore, before_irreflexive, before_trans, before_extended, before_apart, apart_before}
+use Rattle.ht_pair.proofs.Siblings.{AreOrdered, ordered_words}
+use Rattle.ht_pair.proofs.Sequences.{each_hold, each_of, length-each, each-map}
 
 -- an entry of a list with the entries K is in K or stays where x stands for them
 in_unmerged : {T : Type 0} (A K B : List T) (x t : T) → Contains (A ++ K ++ B) t → Contains K t ⊎ Contains (A ++ x ∷ B) t
@@ -71,26 +72,39 @@ words_around : (side : Row → Word) (A B : List Row) (u v : Word) (k : ℕ) →
 words_around side A B u v k =
     map-append side (A ++ child_rows u v k) B ∙ ap (λ t. t ++ map side B) (map-append side A (child_rows u v k) ∙ ap (λ t. map side A ++ t) (each-map side (child_row u v) k))
 
--- a pair with its rows in order
-pub record IsOrderedPair (shape : Shape) (p : List Row) : Type 0 where
-  pub pair : IsPair shape p
-  pub before : AllPairs IsBefore (from_words p)
-
-ordered_merged : (shape : Shape) (A B : List Row) (u v : Word) → IsOrderedPair shape (A ++ child_rows u v shape.n ++ B) → IsOrderedPair shape (A ++ record { from = u; to = v } ∷ B)
+-- rows in order stay in order
+ordered_merged : (shape : Shape) (A B : List Row) (u v : Word) → AreOrdered shape (A ++ child_rows u v shape.n ++ B) → AreOrdered shape (A ++ record { from = u; to = v } ∷ B)
 ordered_merged shape A B u v h =
-    let from_around = words_around (λ row. row.from) A B u v shape.n in
-    let to_around = words_around (λ row. row.to) A B u v shape.n in
     let row : Row = record { from = u; to = v } in
-    let from_basis = basis_merged shape (from_words A) (from_words B) u (subst (IsBasis shape) from_around h.pair.from) in
+    let K = children_to u shape.n in
+    let p = A ++ child_rows u v shape.n ++ B in
+    let q = A ++ row ∷ B in
+    let around = words_around (λ row. row.from) A B u v shape.n in
+    let is = map-append (λ (row : Row). row.from) A (row ∷ B) in
+    let words : All (IsWordOf shape) (from_words A ++ K ++ from_words B) = subst (All (IsWordOf shape)) around (ordered_words shape p h) in
+    let before : AllPairs IsBefore (from_words A ++ K ++ from_words B) = subst (AllPairs IsBefore) around (AllPairs-map (λ (t : Row). t.from) IsBefore p h.before) in
+    let free : IsPrefixFree (from_words A ++ u ∷ from_words B) = free_merged shape (from_words A) (from_words B) u words (λ i j d l m. before_apart _ _ (before i j d l m)) in
     let first = children_hold u shape.n 1 (omega arith) (omega (arith, shape.letters_low)) in
-    let from_is = sym (map-append (λ (row : Row). row.from) A (row ∷ B)) in
+    let new_words : All (IsWordOf shape) (from_words q) = subst (All (IsWordOf shape)) (sym is) (words_merged shape (from_words A) (from_words B) u words) in
+    let new_before : AllPairs IsBefore (from_words q) = subst (AllPairs IsBefore) (sym is) (before_merged (from_words A) K (from_words B) u 1 first free before) in
     record {
-      pair = record {
-        from = subst (IsBasis shape) from_is from_basis;
-        to = subst (IsBasis shape) (sym (map-append (λ (row : Row). row.to) A (row ∷ B))) (basis_merged shape (to_words A) (to_words B) v (subst (IsBasis shape) to_around h.pair.to));
-      };
-      before = subst (AllPairs IsBefore) from_is (before_merged (from_words A) (children_to u shape.n) (from_words B) u 1 first from_basis.prefix_free (subst (AllPairs IsBefore) from_around h.before));
+      words = λ row c. All-contains (IsWordOf shape) (from_words q) row.from new_words (Contains-map (λ (t : Row). t.from) q row c);
+      before = AllPairs-from_map (λ (t : Row). t.from) IsBefore q new_before;
     }
+
+-- what one side covers it covers still
+side_covers_merged : (shape : Shape) (A B : List Row) (u v : Word) (V : List Word) → Covers shape (from_words (A ++ child_rows u v shape.n ++ B)) V → Covers shape (from_words (A ++ record { from = u; to = v } ∷ B)) V
+side_covers_merged shape A B u v V h =
+    let row : Row = record { from = u; to = v } in
+    subst (λ W. Covers shape W V) (sym (map-append (λ (row : Row). row.from) A (row ∷ B)))
+    (covers_merged shape (from_words A) (from_words B) V u (subst (λ W. Covers shape W V) (words_around (λ row. row.from) A B u v shape.n) h))
+
+-- and so for the `to` words
+to_covers_merged : (shape : Shape) (A B : List Row) (u v : Word) (V : List Word) → Covers shape (to_words (A ++ child_rows u v shape.n ++ B)) V → Covers shape (to_words (A ++ record { from = u; to = v } ∷ B)) V
+to_covers_merged shape A B u v V h =
+    let row : Row = record { from = u; to = v } in
+    subst (λ W. Covers shape W V) (sym (map-append (λ (row : Row). row.to) A (row ∷ B)))
+    (covers_merged shape (to_words A) (to_words B) V v (subst (λ W. Covers shape W V) (words_around (λ row. row.to) A B u v shape.n) h))
 
 fewer_merged : (shape : Shape) (A B : List Row) (u v : Word) → length (A ++ record { from = u; to = v } ∷ B) ≤ length (A ++ child_rows u v shape.n ++ B)
 fewer_merged shape A B u v = omega (arith, length-append A (record { from = u; to = v } ∷ B), length-append (A ++ child_rows u v shape.n) B, length-append A (child_rows u v shape.n), length-each (child_row u v) shape.n, shape.letters_low)
@@ -129,8 +143,28 @@ merges_keep : (shape : Shape) (p q : List Row) (P : List Row → Type 0) → ((A
 merges_keep shape p q P step unmerged h = h
 merges_keep shape p q P step (merged A B u v m) h = step A B u v (merges_keep shape p (A ++ child_rows u v shape.n ++ B) P step m h)
 
-pub merges_ordered : (shape : Shape) (p q : List Row) → Merges shape p q → IsOrderedPair shape p → IsOrderedPair shape q
-merges_ordered shape p q m = merges_keep shape p q (IsOrderedPair shape) (ordered_merged shape) m
+pub merges_ordered : (shape : Shape) (p q : List Row) → Merges shape p q → AreOrdered shape p → AreOrdered shape q
+merges_ordered shape p q m = merges_keep shape p q (AreOrdered shape) (ordered_merged shape) m
+
+pub merges_cover : (shape : Shape) (p q : List Row) (V : List Word) → Merges shape p q → Covers shape (from_words p) V → Covers shape (from_words q) V
+merges_cover shape p q V m = merges_keep shape p q (λ t. Covers shape (from_words t) V) (λ A B u v. side_covers_merged shape A B u v V) m
+
+pub merges_pair : (shape : Shape) (p q : List Row) → Merges shape p q → IsPair shape p → IsPair shape q
+merges_pair shape p q m pair = record {
+  from = merges_cover shape p q (roots shape) m pair.from;
+  to = merges_keep shape p q (λ t. Covers shape (to_words t) (roots shape)) (λ A B u v. to_covers_merged shape A B u v (roots shape)) m pair.to;
+}
+
+-- what holds of each row, and of a row where it holds of the row's first child, holds of each row still
+pub merges_each : (shape : Shape) (p q : List Row) (P : Row → Type 0) → ((u v : Word) → P (child_row u v 1) → P (record { from = u; to = v })) → Merges shape p q
+    → ((row : Row) → Contains p row → P row) → (row : Row) → Contains q row → P row
+merges_each shape p q P up m = merges_keep shape p q (λ t. (row : Row) → Contains t row → P row) (λ A B u v all row c.
+    let K = child_rows u v shape.n in
+    let x : Row = record { from = u; to = v } in
+    elim (in_merged A K B x row c) [
+      | inl e ↦ subst P e (up u v (all (child_row u v 1) (Contains-append_left (A ++ K) B (child_row u v 1) (Contains-append_right A K (child_row u v 1) (each_hold (child_row u v) shape.n 1 (omega arith) (omega (arith, shape.letters_low)))))))
+      | inr h ↦ all row h
+    ]) m
 
 pub merges_fewer : (shape : Shape) (p q : List Row) → Merges shape p q → length q ≤ length p
 merges_fewer shape p q m = merges_keep shape p q (λ t. length t ≤ length p) (λ A B u v h. omega (arith, fewer_merged shape A B u v)) m (omega arith)

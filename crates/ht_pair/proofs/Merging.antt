@@ -1,13 +1,13 @@
--- The n children of a word in a basis may be replaced by the word: the other way round than an expansion.
-use Rattle.std.proofs.Common.{◌≡◌, ℕ, ◌≤◌, ◌<◌, ◌⊎◌, inl, inr, List, [], ◌∷◌, ◌++◌, length, sym, subst, arith, Contains}
-use Rattle.std.proofs.lemmas.List.Elements.{Contains-append_left, Contains-append_right, Contains-append_cases}
+-- The n children of a word in a cover may be replaced by the word: the other way round than an expansion.
+use Rattle.std.proofs.Common.{◌≡◌, ℕ, ◌≤◌, ◌<◌, ◌⊎◌, inl, inr, max, List, [], ◌∷◌, ◌++◌, length, sym, subst, arith, All, Contains}
+use Rattle.std.proofs.lemmas.List.Elements.{All-contains, Contains-append_left, Contains-append_right, Contains-append_cases}
 use Rattle.ht_word.specs.declared.word.Word.{Word}
 use Rattle.ht_word.specs.declared.shape.Shape.{Shape}
-use Rattle.ht_word.specs.Words.{child, IsWordOf, IsUnder}
-use Rattle.ht_pair.specs.Bases.{AreApart, longest, IsBasis}
-use Rattle.ht_word.proofs.WordLaws.{under_after, under_trans, under_same, word_front, All-from_contains}
+use Rattle.ht_word.specs.Words.{child, IsWordOf, IsUnder, IsUnderSome}
+use Rattle.ht_pair.specs.Bases.{AreApart, IsPrefixFree, longest, roots, Covers, IsBasis}
+use Rattle.ht_word.proofs.WordLaws.{under_after, under_trans, under_same, word_front, length-after, All-from_contains}
 use Rattle.ht_word.proofs.ListLaws.{Contains-here, Contains-there, Contains-cons_cases, AllPairs-left, AllPairs-right, AllPairs-across, AllPairs-cons, AllPairs-append}
-use Rattle.ht_pair.proofs.BasisLaws.{children_to, children_hold, child_above, child_under, some_at, basis_word, basis_holds, basis_from}
+use Rattle.ht_pair.proofs.BasisLaws.{children_to, children_hold, child_above, child_under, some_at, longest_bounds, covers_long, covers_from}
 
 shorter_or : (i j : ℕ) → (i ≤ j) ⊎ (j < i)
 shorter_or i j = grind arith
@@ -38,32 +38,63 @@ pub first_child : (shape : Shape) (A B : List Word) (x : Word) → Contains (A +
 first_child shape A B x =
     Contains-append_left (A ++ children_to x shape.n) B (child x 1) (Contains-append_right A (children_to x shape.n) (child x 1) (children_hold x shape.n 1 (omega arith) (omega (arith, shape.letters_low))))
 
-pub basis_merged : (shape : Shape) (A B : List Word) (x : Word) → IsBasis shape (A ++ children_to x shape.n ++ B) → IsBasis shape (A ++ x ∷ B)
-basis_merged shape A B x b =
+-- the words are of the shape and stay so
+pub words_merged : (shape : Shape) (A B : List Word) (x : Word) → All (IsWordOf shape) (A ++ children_to x shape.n ++ B) → All (IsWordOf shape) (A ++ x ∷ B)
+words_merged shape A B x words =
+    let W = A ++ children_to x shape.n ++ B in
+    All-from_contains (IsWordOf shape) (A ++ x ∷ B) (λ w c. elim (in_merged A (children_to x shape.n) B x w c) [
+      | inl e ↦ subst (IsWordOf shape) e (word_front shape x (1 ∷ []) (All-contains (IsWordOf shape) W (child x 1) words (first_child shape A B x)))
+      | inr h ↦ All-contains (IsWordOf shape) W w words h
+    ])
+
+-- they are apart and stay so
+pub free_merged : (shape : Shape) (A B : List Word) (x : Word) → All (IsWordOf shape) (A ++ children_to x shape.n ++ B) → IsPrefixFree (A ++ children_to x shape.n ++ B) → IsPrefixFree (A ++ x ∷ B)
+free_merged shape A B x words free =
     let K = children_to x shape.n in
-    let free = b.prefix_free in
     let front = AllPairs-left AreApart (A ++ K) B free in
-    let word : (w : Word) → Contains (A ++ K ++ B) w → IsWordOf shape w = λ w c. basis_word shape (A ++ K ++ B) b w c in
-    let hx : IsWordOf shape x = word_front shape x (1 ∷ []) (word (child x 1) (first_child shape A B x)) in
+    let word : (w : Word) → Contains (A ++ K ++ B) w → IsWordOf shape w = λ w c. All-contains (IsWordOf shape) (A ++ K ++ B) w words c in
     let in_A : (w : Word) → Contains A w → Contains (A ++ K ++ B) w = λ w c. Contains-append_left (A ++ K) B w (Contains-append_left A K w c) in
     let in_B : (w : Word) → Contains B w → Contains (A ++ K ++ B) w = λ w c. Contains-append_right (A ++ K) B w c in
     let a_x : (a : Word) → Contains A a → AreApart a x = λ a c. apart_parent shape x a (word a (in_A a c)) (λ w d. AllPairs-across AreApart A K front a w c d) in
     let x_b : (y : Word) → Contains B y → AreApart x y = λ y c. turned_round (apart_parent shape x y (word y (in_B y c)) (λ w d. turned_round (AllPairs-across AreApart (A ++ K) B free w y (Contains-append_right A K w d) c))) in
-    basis_from shape (A ++ x ∷ B)
-    (All-from_contains (IsWordOf shape) (A ++ x ∷ B) (λ w c. elim (in_merged A K B x w c) [ inl e ↦ subst (IsWordOf shape) e hx | inr h ↦ word w h ]))
-    (AllPairs-append AreApart A (x ∷ B) (AllPairs-left AreApart A K front)
+    AllPairs-append AreApart A (x ∷ B) (AllPairs-left AreApart A K front)
     (AllPairs-cons AreApart x B (All-from_contains (AreApart x) B x_b) (AllPairs-right AreApart (A ++ K) B free))
     (λ a y c d. elim (Contains-cons_cases x B y d) [
       | inl e ↦ subst (AreApart a) e (a_x a c)
       | inr m ↦ AllPairs-across AreApart (A ++ K) B free a y (Contains-append_left A K a c) m
-    ]))
-    (longest (A ++ K ++ B))
-    (λ u h l.
-    let s = basis_holds shape (A ++ K ++ B) b u h l in
-    elim (Contains-append_cases (A ++ K) B s.above s.listed) [
-      | inr m ↦ some_at (A ++ x ∷ B) s.above u (Contains-append_right A (x ∷ B) s.above (Contains-there x B s.above m)) s.under
-      | inl k ↦ elim (Contains-append_cases A K s.above k) [
-        | inl a ↦ some_at (A ++ x ∷ B) s.above u (Contains-append_left A (x ∷ B) s.above a) s.under
-        | inr c ↦ some_at (A ++ x ∷ B) x u (Contains-append_right A (x ∷ B) x (Contains-here x B)) (under_trans s.under (child_under x shape.n s.above c))
-      ]
     ])
+
+-- what is under the list with the children is under the one with their parent
+under_merged : (shape : Shape) (A B : List Word) (x u : Word) → IsUnderSome u (A ++ children_to x shape.n ++ B) → IsUnderSome u (A ++ x ∷ B)
+under_merged shape A B x u s = elim (Contains-append_cases (A ++ children_to x shape.n) B s.above s.listed) [
+  | inr m ↦ some_at (A ++ x ∷ B) s.above u (Contains-append_right A (x ∷ B) s.above (Contains-there x B s.above m)) s.under
+  | inl k ↦ elim (Contains-append_cases A (children_to x shape.n) s.above k) [
+    | inl a ↦ some_at (A ++ x ∷ B) s.above u (Contains-append_left A (x ∷ B) s.above a) s.under
+    | inr c ↦ some_at (A ++ x ∷ B) x u (Contains-append_right A (x ∷ B) x (Contains-here x B)) (under_trans s.under (child_under x shape.n s.above c))
+  ]
+]
+
+-- and the other way round, for a word with more letters than the parent
+under_unmerged : (shape : Shape) (A B : List Word) (x u : Word) → IsWordOf shape u → length x.letters < length u.letters → IsUnderSome u (A ++ x ∷ B) → IsUnderSome u (A ++ children_to x shape.n ++ B)
+under_unmerged shape A B x u h l s =
+    let K = children_to x shape.n in
+    elim (in_merged A K B x s.above s.listed) [
+      | inr c ↦ some_at (A ++ K ++ B) s.above u c s.under
+      | inl e ↦ (let g = child_above shape x u h (subst (IsUnder u) (sym e) s.under) l in some_at (A ++ K ++ B) g.above u (Contains-append_left (A ++ K) B g.above (Contains-append_right A K g.above g.listed)) g.under)
+    ]
+
+-- a cover stays one
+pub covers_merged : (shape : Shape) (A B V : List Word) (x : Word) → Covers shape (A ++ children_to x shape.n ++ B) V → Covers shape (A ++ x ∷ B) V
+covers_merged shape A B V x h =
+    let W = A ++ children_to x shape.n ++ B in
+    covers_from shape (A ++ x ∷ B) V (words_merged shape A B x h.words) (free_merged shape A B x h.words h.prefix_free)
+    (max (longest W) (longest V))
+    (λ u word l.
+    let same = covers_long shape W V h u word l in
+    let longer : length x.letters < length u.letters = omega (arith, longest_bounds W (child x 1) (first_child shape A B x), length-after x (1 ∷ [])) in (
+      (λ s. same.0 (under_unmerged shape A B x u word longer s)),
+      (λ s. under_merged shape A B x u (same.1 s)),
+    ))
+
+pub basis_merged : (shape : Shape) (A B : List Word) (x : Word) → IsBasis shape (A ++ children_to x shape.n ++ B) → IsBasis shape (A ++ x ∷ B)
+basis_merged shape A B x b = covers_merged shape A B (roots shape) x b

@@ -1,12 +1,13 @@
 -- Child rows of one row among rows in order: no cone lies between two neighbours, so they stand next to each other.
-use Rattle.std.proofs.Common.{◌≡◌, ℕ, zero, suc, ◌≤◌, inl, inr, List, [], ◌∷◌, ◌++◌, sym, ap, ◌∙◌, subst, append_assoc, append-nil, arith, AllPairs, Contains}
+use Rattle.std.proofs.Common.{◌≡◌, ℕ, zero, suc, ◌≤◌, inl, inr, List, [], ◌∷◌, ◌++◌, sym, ap, ◌∙◌, subst, append_assoc, append-nil, arith, All, AllPairs, Contains}
 use Rattle.std.proofs.lemmas.List.Elements.{Contains-append_left, Contains-append_right}
 use Rattle.ht_word.specs.declared.word.Word.{Word}
 use Rattle.ht_word.specs.declared.shape.Shape.{Shape}
 use Rattle.ht_word.specs.Words.{child, IsWordOf}
-use Rattle.ht_word.proofs.WordLaws.{after_cancel}
-use Rattle.ht_word.proofs.ListLaws.{Contains-here, AllPairs-left, AllPairs-across}
+use Rattle.ht_word.proofs.WordLaws.{after_cancel, All-from_contains}
+use Rattle.ht_word.proofs.ListLaws.{Contains-here, contained_in_map, AllPairs-left, AllPairs-across}
 use Rattle.ht_pair.specs.declared.row.Row.{Row}
+use Rattle.ht_pair.specs.Pairs.{from_words}
 use Rattle.ht_pair.specs.Actions.{child_row}
 use Rattle.ht_pair.specs.Merges.{child_rows}
 use Rattle.ht_pair.proofs.ConeOrder.{IsBefore, none_between, child_follows}
@@ -16,6 +17,10 @@ use Rattle.ht_pair.proofs.Sequences.{has_last, in_front_or}
 pub record AreOrdered (shape : Shape) (p : List Row) : Type 0 where
   pub words : (row : Row) → Contains p row → IsWordOf shape row.from
   pub before : AllPairs (λ (x : Row) (y : Row). IsBefore x.from y.from) p
+
+-- their `from` words as a list
+pub ordered_words : (shape : Shape) (p : List Row) → AreOrdered shape p → All (IsWordOf shape) (from_words p)
+ordered_words shape p h = All-from_contains (IsWordOf shape) (from_words p) (λ w c. let g = contained_in_map (λ (t : Row). t.from) p w c in subst (IsWordOf shape) g.2 (h.words g.0 g.1))
 
 pub ordered_front : (shape : Shape) (p q : List Row) → AreOrdered shape (p ++ q) → AreOrdered shape p
 ordered_front shape p q h = record {

@@ -7,6 +7,7 @@ pub mod Actions
 pub mod Sides
 pub mod Tilings
 pub mod Merges
+pub mod Tables
 pub mod Elements
 pub mod RowsFaults
 pub mod Sizes

@@ -6,7 +6,7 @@
 //! - `row`: rows and lists of rows
 //! - `element`: elements, made from rows
 //! - `fault`: why rows are no element, and why elements have no product
-//! - `reduce`: the reduced rows of a pair
+//! - `reduce`: the reduced rows of a pair, and of a table
 //! - `moves`: how rows move words
 //! - `pair`: the test whether rows are a pair
 //! - `tiling`: the test whether sorted words are a basis
@@ -26,5 +26,5 @@ mod tiling;
 
 pub use element::Element;
 pub use fault::{OpFault, RowsFault};
-pub use reduce::reduce_rows;
+pub use reduce::{merge_table, reduce_rows};
 pub use row::{Row, Rows};

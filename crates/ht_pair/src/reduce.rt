@@ -1,10 +1,11 @@
-//! The reduced rows of a pair.
+//! The reduced rows of a pair, and of a table.
 ghost use Rattle.std.specs.Prelude.{ℕ, ◌≡◌, ◌≢◌, ◌++◌, ◌∷◌, ◌^◌, ◌+◌, ◌≤◌, ◌<◌, [], ◌↔◌, length, vec_len, IsTrue, IfOk, OnOk, MatchOption};
 ghost use Rattle.ht_word.specs.declared.word.Word.{Word};
 ghost use Rattle.ht_word.specs.Words.{◌·◌, child, root_word, IsAscending};
 ghost use Rattle.ht_pair.specs.Pairs.{IsPair, from_words, longest_of};
 ghost use Rattle.ht_pair.specs.Actions.{child_row, IsCanonicalFor};
 ghost use Rattle.ht_pair.specs.Merges.{child_rows, ClosesCaret, IsAdded, IsReducedOf};
+ghost use Rattle.ht_pair.specs.Tables.{IsTable, IsMergedTable};
 
 use crate::side::{Side, sort_rows};
 use crate::{Row, Rows};
@@ -12,8 +13,7 @@ use ht_word::{NoMemory, Shape, Word};
 use std::alloc::Global;
 
 /// The canonical pair of a pair's rows: reduced, in ascending order of `from`, moving words as the
-/// rows do. Sorts N rows by O(N log N) comparisons of words, then makes one pass with a stack: a row
-/// is pushed and taken off once at most, and its letters are compared with the last n - 1 rows only.
+/// rows do. Sorts N rows by O(N log N) comparisons of words, then makes one pass, as `merge_table`.
 pub fn reduce_rows(alloc: Global, shape: Shape, rows: Rows) -> Result<Rows, NoMemory>
     requires { IsPair shape rows }
     ensures canonical { IfOk result (λ reduced. IsCanonicalFor shape reduced rows) }
@@ -24,17 +24,28 @@ pub fn reduce_rows(alloc: Global, shape: Shape, rows: Rows) -> Result<Rows, NoMe
     merge_rows(alloc, shape, sorted)
 }
 
-// The rows of a pair in ascending order of `from`, with all merges made: one pass with a stack.
-pub(crate) fn merge_rows(alloc: Global, shape: Shape, rows: Rows) -> Result<Rows, NoMemory>
-    requires pair { IsPair shape rows }
-    requires ascending { IsAscending (from_words rows) }
-    ensures { IfOk result (λ reduced. IsReducedOf shape rows reduced) }
+/// The reduced table of a table: wherever the n child rows of a row stand in it, the row stands for
+/// them. It moves words as the table does, has no more rows and no longer words, and is made in one
+/// pass with a stack: a row is pushed and taken off once at most, and its letters are compared with
+/// the last n - 1 rows only.
+pub fn merge_table(alloc: Global, shape: Shape, rows: Rows) -> Result<Rows, NoMemory>
+    requires { IsTable shape rows }
+    ensures { IfOk result (λ merged. IsMergedTable shape rows merged) }
 {
     let mut merged = Vec::new(alloc);
     for row in rows.into_vec() {
         add_row(shape, &mut merged, row)?;
     }
     Ok(Rows::from_vec(merged))
+}
+
+// The rows of a pair in ascending order of `from`, with all merges made.
+pub(crate) fn merge_rows(alloc: Global, shape: Shape, rows: Rows) -> Result<Rows, NoMemory>
+    requires pair { IsPair shape rows }
+    requires ascending { IsAscending (from_words rows) }
+    ensures { IfOk result (λ reduced. IsReducedOf shape rows reduced) }
+{
+    merge_table(alloc, shape, rows)
 }
 
 // Adds a row behind merged ones, and makes each merge that it brings about.

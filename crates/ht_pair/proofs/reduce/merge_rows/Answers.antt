@@ -1,23 +1,12 @@
-use Rattle.std.proofs.Common.{◌≡◌, length, sym, ◌∙◌, subst, subst₂, arith}
-use Rattle.std.proofs.lemmas.List.{nil_from_length}
-use Rattle.std.specs.Vec.Iter.{into_iter_items}
-use Rattle.ht_pair.proofs.Canonical.{AreMergedUpTo, ordered_pair, none_merged, one_more_merged, all_merged}
+use Rattle.std.proofs.lemmas.Result.{IfOk-weaker}
+use Rattle.ht_pair.specs.Merges.{IsReducedOf}
+use Rattle.ht_pair.specs.Tables.{IsMergedTable}
+use Rattle.ht_pair.proofs.Canonical.{pair_table, merged_pair}
 use Rattle.ht_pair.proofs.reduce.merge_rows.Goals as goal
 
-pub loop-row-init : goal.loop-row-init
-loop-row-init c =
-    subst₂ (AreMergedUpTo c.args.shape c.args.rows) (sym c.new-merged.ensures.items) (sym (c.into_iter-row-iterator.ensures.into_iter_gives.0 ∙ c.into_vec-row-items.ensures))
-    (none_merged c.args.shape c.args.rows)
-
-pub loop-row-preserved : goal.loop-row-preserved
-loop-row-preserved c =
-    one_more_merged c.args.shape c.args.rows c.loop-row.merged.items (into_iter_items c.next.new.self) c.add_row.new.merged.items c.in-Some.row
-    (ordered_pair c.args.shape c.args.rows c.requires.pair c.requires.ascending)
-    (subst (AreMergedUpTo c.args.shape c.args.rows c.loop-row.merged.items) c.in-Some.ensures.steps.0 c.loop-row.invariant)
-    c.in_ok-add_row.ensures
+pub merge_table-requires : goal.merge_table-requires
+merge_table-requires c = pair_table c.args.shape c.args.rows c.requires.pair c.requires.ascending
 
 pub returns : goal.returns
 returns c =
-    let none : length (into_iter_items c.loop-row.row-iterator) ≡ 0 = omega (arith, c.loop-row.row-iterator.rest.ok.0, c.in-None.ensures.steps.0) in
-    all_merged c.args.shape c.args.rows c.from_vec.result (ordered_pair c.args.shape c.args.rows c.requires.pair c.requires.ascending)
-    (subst₂ (AreMergedUpTo c.args.shape c.args.rows) (sym c.from_vec.ensures) (nil_from_length (into_iter_items c.loop-row.row-iterator) none) c.loop-row.invariant)
+    IfOk-weaker c.merge_table.result (IsMergedTable c.args.shape c.args.rows) (IsReducedOf c.args.shape c.args.rows) (λ q h. merged_pair c.args.shape c.args.rows q c.requires.pair h) c.merge_table.ensures
