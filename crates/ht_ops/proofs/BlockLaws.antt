@@ -1,8 +1,11 @@
 -- The blocks of a product, and the pair that they make together.
-use Rattle.std.proofs.Common.{◌≡◌, ℕ, ◌+◌, inl, inr, List, [], ◌∷◌, ◌++◌, length, map, drop, refl, sym, ap, ◌∙◌, subst, subst₂, arith, All, AllPairs, Contains, append_assoc, append-nil, get_or, slice_get, Some}
+use Rattle.std.proofs.Common.{◌≡◌, ℕ, suc, ◌<◌, ◌+◌, drop-cons, add-one, inl, inr, List, [], ◌∷◌, ◌++◌, length, map, drop, refl, sym, ap, ◌∙◌, subst, subst₂, arith, All, AllPairs, Contains, append_assoc, append-nil, get_or, slice_get, Some}
+use Rattle.std.specs.Result.{IfOk, OnOk}
+use Rattle.std.specs.declared.result.Result.{Result}
+use Rattle.std.specs.declared.result.Result.TheVariants.{Ok, Err}
 use Rattle.std.proofs.lemmas.List.{nil_from_length}
 use Rattle.std.proofs.lemmas.Option.{slice_get_within}
-use Rattle.std.proofs.lemmas.List.Elements.{All-nil, Contains-append_left, Contains-append_right, Contains-append_cases}
+use Rattle.std.proofs.lemmas.List.Elements.{All-contains, All-nil, Contains-append_left, Contains-append_right, Contains-append_cases}
 use Rattle.ht_word.specs.declared.word.Word.{Word}
 use Rattle.ht_word.specs.declared.shape.Shape.{Shape}
 use Rattle.ht_word.specs.Words.{◌·◌, IsLetter, IsWordOf, IsUnder, IsUnderSome}
@@ -11,17 +14,28 @@ use Rattle.ht_word.proofs.ListLaws.{Contains-nil, Contains-here, Contains-cons_c
 use Rattle.ht_pair.specs.declared.row.Row.{Row}
 use Rattle.ht_pair.specs.Bases.{AreApart, IsPrefixFree, longest, IsBasis}
 use Rattle.ht_pair.specs.Pairs.{IsPair, from_words, to_words}
-use Rattle.ht_pair.specs.Actions.{Moves}
+use Rattle.ht_pair.specs.Actions.{Moves, IsCanonical}
+use Rattle.ht_pair.specs.Tables.{IsTable}
 use Rattle.ht_pair.specs.Products.{IsProduct}
-use Rattle.ht_pair.proofs.BasisLaws.{some_at, apart_under, basis_holds, basis_word, basis_from}
+use Rattle.ht_pair.proofs.Canonical.{ordered_table}
+use Rattle.ht_pair.proofs.ConeOrder.{IsBefore, before_extended, before_behind, all_before, before_free, before_ascending}
+use Rattle.ht_pair.proofs.BasisLaws.{some_at, basis_holds, basis_word, basis_from}
 use Rattle.ht_pair.proofs.MovesLaws.{moves_map}
 use Rattle.ht_pair.proofs.PrefixMapLaws.{Then, then_map, IsPrefixMap, RowsOf, length-carried, rows_basis, rows_move}
 use Rattle.ht_pair.proofs.ProductLaws.{product_of}
 use Rattle.ht_pair.proofs.RowSearch.{letters_behind}
 use Rattle.ht_ops.proofs.RunLaws.{read_same}
-use Rattle.ht_ops.specs.Blocks.{IsPartOf, IsBlock, HasBlock, IsRun, moved_by, carried_by}
+use Rattle.ht_ops.specs.Blocks.{IsPartOf, IsBlock, HasBlock, IsPartOfSome, AreBlocks, IsRun, moved_by, carried_by}
+
+-- the cone of the first row's `from` word is before that of the second's
+abbrev IsRowBefore : Row → Row → Type 0
+IsRowBefore x y = IsBefore x.from y.from
 
 -- ---- one block
+
+-- a list of one word is in order
+one_before : (u : Word) → AllPairs IsBefore (u ∷ [])
+one_before u = AllPairs-cons IsBefore u [] (λ i d l. absurd (omega arith)) (AllPairs-nil IsBefore)
 
 -- a row of q that moves all that the row gives
 pub moved_block : (shape : Shape) (q : List Row) (row other : Row) → Contains q other → IsUnder row.to other.from → IsBlock shape q row (moved_by row other ∷ [])
@@ -35,7 +49,8 @@ moved_block shape q row other listed under = record {
     })
     | inr n ↦ absurd (Contains-nil x n)
   ];
-  prefix_free = AllPairs-cons AreApart row.from [] (λ i d l. absurd (omega arith)) (AllPairs-nil AreApart);
+  prefix_free = before_free (row.from ∷ []) (one_before row.from);
+  ascending = before_ascending (row.from ∷ []) (one_before row.from);
   covered = λ z s. some_at (row.from ∷ []) row.from (row.from · z) (Contains-here row.from []) (under_after row.from z);
 }
 
@@ -43,13 +58,10 @@ moved_block shape q row other listed under = record {
 swap_under : (u t : Word) (y z : List ℕ) → IsUnder (u · y) (u · z) → IsUnder (t · y) (t · z)
 swap_under u t y z h = record { rest = h.rest; is = ap (λ s. t · s) (after_cancel u y (z ++ h.rest) (h.is ∙ after-append u z h.rest)) ∙ sym (after-append t z h.rest) }
 
--- two rows carried over are apart as the rows are
-carried_apart : (row x y : Row) → IsUnder x.from row.to → IsUnder y.from row.to → AreApart x.from y.from → AreApart (carried_by row x).from (carried_by row y).from
-carried_apart row x y h g apart =
-    let there : AreApart (row.to · drop (length row.to.letters) x.from.letters) (row.to · drop (length row.to.letters) y.from.letters) = subst₂ AreApart (letters_behind row.to x.from h) (letters_behind row.to y.from g) apart in (
-      λ k. there.0 (swap_under row.from row.to _ _ k),
-      λ k. there.1 (swap_under row.from row.to _ _ k),
-    )
+-- of two rows one is before the other also where they are carried over
+carried_before : (row x y : Row) → IsUnder x.from row.to → IsUnder y.from row.to → IsBefore x.from y.from → IsBefore (carried_by row x).from (carried_by row y).from
+carried_before row x y h g before =
+    before_behind row.to row.from (drop (length row.to.letters) x.from.letters) (drop (length row.to.letters) y.from.letters) (subst₂ IsBefore (letters_behind row.to x.from h) (letters_behind row.to y.from g) before)
 
 -- a row of q that moves some of what the row gives
 run_part : (shape : Shape) (q : List Row) (row other : Row) → Contains q other → IsWordOf shape other.from → IsUnder other.from row.to → IsPartOf shape q row (carried_by row other)
@@ -67,13 +79,13 @@ run_part shape q row other listed word under =
 run_listed : (q : List Row) (w : Word) (run : List Row) (r : IsRun q w run) (x : Row) → Contains run x → Contains q x
 run_listed q w run r x c = subst (λ (t : List Row). Contains t x) (sym r.are) (Contains-append_right r.before (run ++ r.behind) x (Contains-append_left run r.behind x c))
 
--- the rows of a run are carried over to words that are apart
-run_free : (q : List Row) (row : Row) (run : List Row) → IsPrefixFree (from_words q) → IsRun q row.to run → IsPrefixFree (from_words (map (carried_by row) run))
-run_free q row run free r =
-    let apart : AllPairs (λ (x : Row) (y : Row). AreApart x.from y.from) run = AllPairs-left (λ (x : Row) (y : Row). AreApart x.from y.from) run r.behind (AllPairs-right (λ (x : Row) (y : Row). AreApart x.from y.from) r.before (run ++ r.behind) (subst (λ (t : List Row). AllPairs (λ (x : Row) (y : Row). AreApart x.from y.from) t) r.are (AllPairs-from_map (λ (t : Row). t.from) AreApart q free))) in
-    AllPairs-map (λ (t : Row). t.from) AreApart (map (carried_by row) run)
-    (AllPairs-map (carried_by row) (λ (x : Row) (y : Row). AreApart x.from y.from) run
-    (AllPairs-weaker (λ (x : Row) (y : Row). AreApart x.from y.from) (λ (x : Row) (y : Row). AreApart (carried_by row x).from (carried_by row y).from) run apart (λ x y c e a. carried_apart row x y (r.under x c) (r.under y e) a)))
+-- the rows of a run are carried over in order
+run_before : (q : List Row) (row : Row) (run : List Row) → AllPairs IsBefore (from_words q) → IsRun q row.to run → AllPairs IsBefore (from_words (map (carried_by row) run))
+run_before q row run before r =
+    let here : AllPairs IsRowBefore run = AllPairs-left IsRowBefore run r.behind (AllPairs-right IsRowBefore r.before (run ++ r.behind) (subst (AllPairs IsRowBefore) r.are (AllPairs-from_map (λ (t : Row). t.from) IsBefore q before))) in
+    AllPairs-map (λ (t : Row). t.from) IsBefore (map (carried_by row) run)
+    (AllPairs-map (carried_by row) IsRowBefore run
+    (AllPairs-weaker IsRowBefore (λ (x : Row) (y : Row). IsRowBefore (carried_by row x) (carried_by row y)) run here (λ x y c e b. carried_before row x y (r.under x c) (r.under y e) b)))
 
 -- what q moves of what the row gives is moved by a row that is carried over
 run_covers : (q : List Row) (row : Row) (run : List Row) → IsRun q row.to run → ((v : Word) → ¬ Moves q row.to v) → (z : List ℕ) → IsUnderSome (row.to · z) (from_words q) → IsUnderSome (row.from · z) (from_words (map (carried_by row) run))
@@ -89,15 +101,19 @@ run_covers q row run r none z s =
     ]
 
 -- the rows below what the row gives, where no row is above it
-pub run_block : (shape : Shape) (q : List Row) (row : Row) (run : List Row) → IsBasis shape (from_words q) → IsRun q row.to run → ((v : Word) → ¬ Moves q row.to v) → IsBlock shape q row (map (carried_by row) run)
-run_block shape q row run basis r none = record {
+pub run_block : (shape : Shape) (q : List Row) (row : Row) (run : List Row) → IsCanonical shape q → IsRun q row.to run → ((v : Word) → ¬ Moves q row.to v) → IsBlock shape q row (map (carried_by row) run)
+run_block shape q row run canonical r none = record {
   parts = λ x c.
       let g = contained_in_map (carried_by row) run x c in
       let listed = run_listed q row.to run r g.0 g.1 in
-      subst (IsPartOf shape q row) g.2 (run_part shape q row g.0 listed (basis_word shape (from_words q) basis g.0.from (Contains-map (λ (t : Row). t.from) q g.0 listed)) (r.under g.0 g.1));
-  prefix_free = run_free q row run basis.prefix_free r;
+      subst (IsPartOf shape q row) g.2 (run_part shape q row g.0 listed (basis_word shape (from_words q) canonical.pair.from g.0.from (Contains-map (λ (t : Row). t.from) q g.0 listed)) (r.under g.0 g.1));
+  prefix_free = before_free (from_words (map (carried_by row) run)) before;
+  ascending = before_ascending (from_words (map (carried_by row) run)) before;
   covered = run_covers q row run r none;
 }
+  where
+    before : AllPairs IsBefore (from_words (map (carried_by row) run))
+    before = run_before q row run (all_before (from_words q) canonical.pair.from.prefix_free canonical.ascending) r
 
 -- the block of one row is added
 pub moved_added : (shape : Shape) (q given : List Row) (row other x : Row) (place : ℕ) (old new : List Row) → q ≡ given → other ≡ get_or q place other
@@ -113,27 +129,15 @@ moved_added shape q given row other x place old new same is found x_is new_is =
     }
 
 -- the block of a run is added
-pub run_added : (shape : Shape) (q given : List Row) (row : Row) (run old new : List Row) → q ≡ given → IsBasis shape (from_words q) → IsRun q row.to run → ((v : Word) → ¬ Moves given row.to v)
+pub run_added : (shape : Shape) (q given : List Row) (row : Row) (run old new : List Row) → q ≡ given → IsCanonical shape q → IsRun q row.to run → ((v : Word) → ¬ Moves given row.to v)
     → new ≡ old ++ map (carried_by row) run → HasBlock shape q row old new
-run_added shape q given row run old new same basis r none is = record {
+run_added shape q given row run old new same canonical r none is = record {
   block = map (carried_by row) run;
-  is_block = run_block shape q row run basis r (λ v m. none v (subst (λ (t : List Row). Moves t row.to v) same m));
+  is_block = run_block shape q row run canonical r (λ v m. none v (subst (λ (t : List Row). Moves t row.to v) same m));
   added = is;
 }
 
 -- ---- all blocks
-
--- a row that a row of the list gives
-pub record IsPartOfSome (shape : Shape) (q done : List Row) (x : Row) : Type 0 where
-  pub row : Row
-  pub listed : Contains done row
-  pub part : IsPartOf shape q row x
-
--- the blocks of the rows of a list
-pub record AreBlocks (shape : Shape) (q done rows : List Row) : Type 0 where
-  pub parts : (x : Row) → Contains rows x → IsPartOfSome shape q done x
-  pub apart : AllPairs (λ (x : Row) (y : Row). AreApart x.from y.from) rows
-  pub covered : (row : Row) → Contains done row → (z : List ℕ) → IsUnderSome (row.to · z) (from_words q) → IsUnderSome (row.from · z) (from_words rows)
 
 -- the blocks of the rows before the rest
 pub record AreBlocksUpTo (shape : Shape) (p q rows rest : List Row) : Type 0 where
@@ -151,15 +155,29 @@ some_more rows more u within s =
 part_under : (shape : Shape) (q : List Row) (row x : Row) → IsPartOf shape q row x → IsUnder x.from row.from
 part_under shape q row x h = record { rest = h.rest; is = h.from }
 
+-- the rows of a block and of blocks are in order of cones
+blocks_before : (shape : Shape) (q p rows : List Row) → AreBlocks shape q p rows → AllPairs IsRowBefore rows
+blocks_before shape q p rows h = AllPairs-from_map (λ (t : Row). t.from) IsBefore rows (all_before (from_words rows) h.prefix_free h.ascending)
+
+-- and stay so with one more block behind them
+added_before : (shape : Shape) (q done rows block : List Row) (row : Row) → ((x : Row) → Contains done x → IsRowBefore x row) → AreBlocks shape q done rows → IsBlock shape q row block → AllPairs IsBefore (from_words (rows ++ block))
+added_before shape q done rows block row before h b =
+    AllPairs-map (λ (t : Row). t.from) IsBefore (rows ++ block)
+    (AllPairs-append IsRowBefore rows block (blocks_before shape q done rows h) (AllPairs-from_map (λ (t : Row). t.from) IsBefore block (all_before (from_words block) b.prefix_free b.ascending))
+    (λ x y c e.
+    let s = h.parts x c in
+    let t = b.parts y e in
+    subst₂ IsBefore (sym s.part.from) (sym t.from) (before_extended s.row.from row.from s.part.rest t.rest (before s.row s.listed))))
+
 -- one more block behind the others
-block_added : (shape : Shape) (q done rows block : List Row) (row : Row) → ((x : Row) → Contains done x → AreApart x.from row.from) → AreBlocks shape q done rows → IsBlock shape q row block → AreBlocks shape q (done ++ row ∷ []) (rows ++ block)
-block_added shape q done rows block row apart h b = record {
+block_added : (shape : Shape) (q done rows block : List Row) (row : Row) → ((x : Row) → Contains done x → IsRowBefore x row) → AreBlocks shape q done rows → IsBlock shape q row block → AreBlocks shape q (done ++ row ∷ []) (rows ++ block)
+block_added shape q done rows block row before h b = record {
   parts = λ x c. elim (Contains-append_cases rows block x c) [
     | inl k ↦ (let s = h.parts x k in record { row = s.row; listed = Contains-append_left done (row ∷ []) s.row s.listed; part = s.part })
     | inr k ↦ record { row = row; listed = Contains-append_right done (row ∷ []) row (Contains-here row []); part = b.parts x k }
   ];
-  apart = AllPairs-append (λ (x : Row) (y : Row). AreApart x.from y.from) rows block h.apart (AllPairs-from_map (λ (t : Row). t.from) AreApart block b.prefix_free)
-      (λ x y c e. let s = h.parts x c in apart_under (apart s.row s.listed) (part_under shape q s.row x s.part) (part_under shape q row y (b.parts y e)));
+  prefix_free = before_free (from_words (rows ++ block)) (added_before shape q done rows block row before h b);
+  ascending = before_ascending (from_words (rows ++ block)) (added_before shape q done rows block row before h b);
   covered = λ r c z s. elim (Contains-append_cases done (row ∷ []) r c) [
     | inl k ↦ some_more rows (rows ++ block) (r.from · z) (λ x e. Contains-append_left rows block x e) (h.covered r k z s)
     | inr k ↦ elim (Contains-cons_cases row [] r k) [
@@ -170,17 +188,44 @@ block_added shape q done rows block row apart h b = record {
   ];
 }
 
+-- before the first row
+pub no_blocks : (shape : Shape) (p q rows : List Row) → rows ≡ [] → AreBlocksUpTo shape p q rows p
+no_blocks shape p q rows none = record {
+  done = [];
+  are = refl;
+  blocks = record {
+    parts = λ x c. absurd (Contains-nil x (subst (λ (t : List Row). Contains t x) none c));
+    prefix_free = subst (λ (t : List Row). IsPrefixFree (from_words t)) (sym none) (AllPairs-nil AreApart);
+    ascending = before_ascending (from_words rows) (subst (λ (t : List Row). AllPairs IsBefore (from_words t)) (sym none) (AllPairs-nil IsBefore));
+    covered = λ row c. absurd (Contains-nil row c);
+  };
+}
+
 -- the next row's block comes behind the others
-pub one_more_block : (shape : Shape) (p q rows rest new : List Row) (row : Row) → IsPrefixFree (from_words p) → AreBlocksUpTo shape p q rows (row ∷ rest) → HasBlock shape q row rows new → AreBlocksUpTo shape p q new rest
-one_more_block shape p q rows rest new row free h step = record {
+pub one_more_block : (shape : Shape) (p q rows rest new : List Row) (row : Row) → IsTable shape p → AreBlocksUpTo shape p q rows (row ∷ rest) → HasBlock shape q row rows new → AreBlocksUpTo shape p q new rest
+one_more_block shape p q rows rest new row table h step = record {
   done = h.done ++ row ∷ [];
   are = h.are ∙ sym (append_assoc h.done (row ∷ []) rest);
-  blocks = subst (AreBlocks shape q (h.done ++ row ∷ [])) (sym step.added) (block_added shape q h.done rows step.block row apart h.blocks step.is_block);
+  blocks = subst (AreBlocks shape q (h.done ++ row ∷ [])) (sym step.added) (block_added shape q h.done rows step.block row before h.blocks step.is_block);
 }
   where
-    apart : (x : Row) → Contains h.done x → AreApart x.from row.from
-    apart x c = AllPairs-across (λ (x : Row) (y : Row). AreApart x.from y.from) h.done (row ∷ rest)
-        (subst (λ (t : List Row). AllPairs (λ (x : Row) (y : Row). AreApart x.from y.from) t) h.are (AllPairs-from_map (λ (t : Row). t.from) AreApart p free)) x row c (Contains-here row rest)
+    before : (x : Row) → Contains h.done x → IsRowBefore x row
+    before x c = AllPairs-across IsRowBefore h.done (row ∷ rest) (subst (AllPairs IsRowBefore) h.are (ordered_table shape p table).before) x row c (Contains-here row rest)
+
+-- where no rows are left, they are the blocks of all rows
+pub all_blocks : (shape : Shape) (p q rows items : List Row) → length items ≡ 0 → AreBlocksUpTo shape p q rows items → AreBlocks shape q p rows
+all_blocks shape p q rows items none h =
+    let all : h.done ≡ p = sym (append-nil h.done) ∙ ap (λ (t : List Row). h.done ++ t) (sym (nil_from_length items none)) ∙ sym h.are in
+    subst (λ (t : List Row). AreBlocks shape q t rows) all h.blocks
+
+-- the rows from a place on
+pub next_row : (rows : List Row) (place : ℕ) (row : Row) → place < length rows → row ≡ get_or rows place row → drop place rows ≡ row ∷ drop (place + 1) rows
+next_row rows place row l is = drop-cons rows place row l ∙ ap (λ (t : Row). t ∷ drop (suc place) rows) (sym is) ∙ ap (λ k. row ∷ drop k rows) (sym (add-one place))
+
+-- the `to` word of the next row is of the shape
+pub next_word : (shape : Shape) (p q rows rest : List Row) (row : Row) → All (IsWordOf shape) (to_words p) → AreBlocksUpTo shape p q rows (row ∷ rest) → IsWordOf shape row.to
+next_word shape p q rows rest row words h =
+    All-contains (IsWordOf shape) (to_words p) row.to words (Contains-map (λ (t : Row). t.to) p row (subst (λ (t : List Row). Contains t row) (sym h.are) (Contains-append_right h.done (row ∷ rest) row (Contains-here row rest))))
 
 -- ---- the product
 
@@ -195,17 +240,17 @@ rows_then shape p q rows h = record {
 }
 
 -- their `from` words are of the shape
-rows_words : (shape : Shape) (p q rows : List Row) → IsBasis shape (from_words p) → AreBlocks shape q p rows → All (IsWordOf shape) (from_words rows)
-rows_words shape p q rows basis h = All-from_contains (IsWordOf shape) (from_words rows) (λ w c.
+pub rows_words : (shape : Shape) (p q rows : List Row) → All (IsWordOf shape) (from_words p) → AreBlocks shape q p rows → All (IsWordOf shape) (from_words rows)
+rows_words shape p q rows words h = All-from_contains (IsWordOf shape) (from_words rows) (λ w c.
     let g = contained_in_map (λ (t : Row). t.from) rows w c in
     let s = h.parts g.0 g.1 in
-    subst (IsWordOf shape) (sym s.part.from ∙ g.2) (word_after shape s.row.from s.part.rest (basis_word shape (from_words p) basis s.row.from (Contains-map (λ (t : Row). t.from) p s.row s.listed)) s.part.letters))
+    subst (IsWordOf shape) (sym s.part.from ∙ g.2) (word_after shape s.row.from s.part.rest (All-contains (IsWordOf shape) (from_words p) s.row.from words (Contains-map (λ (t : Row). t.from) p s.row s.listed)) s.part.letters))
 
 -- and a basis
 from_basis : (shape : Shape) (p q rows : List Row) → IsPair shape p → IsPair shape q → AreBlocks shape q p rows → IsBasis shape (from_words rows)
 from_basis shape p q rows pair_p pair_q h =
     let m = (moves_map shape p pair_p).ahead in
-    basis_from shape (from_words rows) (rows_words shape p q rows pair_p.from h) (AllPairs-map (λ (t : Row). t.from) AreApart rows h.apart)
+    basis_from shape (from_words rows) (rows_words shape p q rows pair_p.from.words h) h.prefix_free
     (m.bound + longest (from_words q))
     (λ u word long.
     let v = m.total u word (omega arith) in
@@ -226,13 +271,8 @@ blocks_product shape p q rows pair_p pair_q h =
       by = rows_move shape F m.ahead (from_words rows) r;
     })
 
--- where no rows are left, the blocks are the product
-pub all_blocks : (shape : Shape) (p q rows items : List Row) → length items ≡ 0 → IsPair shape p → IsPair shape q → AreBlocksUpTo shape p q rows items → IsProduct shape p q rows
-all_blocks shape p q rows items none pair_p pair_q h =
-    let all : h.done ≡ p = sym (append-nil h.done) ∙ ap (λ (t : List Row). h.done ++ t) (sym (nil_from_length items none)) ∙ sym h.are in
-    blocks_product shape p q rows pair_p pair_q (subst (λ (t : List Row). AreBlocks shape q t rows) all h.blocks)
-
--- the `to` word of the next row is of the shape
-pub next_word : (shape : Shape) (p q rows rest : List Row) (row : Row) → IsBasis shape (to_words p) → AreBlocksUpTo shape p q rows (row ∷ rest) → IsWordOf shape row.to
-next_word shape p q rows rest row basis h =
-    basis_word shape (to_words p) basis row.to (Contains-map (λ (t : Row). t.to) p row (subst (λ (t : List Row). Contains t row) (sym h.are) (Contains-append_right h.done (row ∷ rest) row (Contains-here row rest))))
+-- and so where both are answered
+pub product_answered : {E : Type 0} (shape given_shape : Shape) (p given q : List Row) (r : Result (List Row) E) → shape ≡ given_shape → given ≡ p → IsPair shape p → IfOk r (AreBlocks given_shape q given) → OnOk r (IsPair given_shape q) → IfOk r (IsProduct shape p q)
+product_answered shape given_shape p given q (Ok rows) shapes is pair_p h pair_q =
+    blocks_product shape p q rows pair_p (subst (λ (s : Shape). IsPair s q) (sym shapes) pair_q) (subst₂ (λ (s : Shape) (t : List Row). AreBlocks s q t rows) (sym shapes) is h)
+product_answered shape given_shape p given q (Err e) shapes is pair_p h pair_q = tt

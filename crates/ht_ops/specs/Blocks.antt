@@ -1,8 +1,10 @@
 -- The rows of a product, block by block: a block has the rows that one row of the first pair gives.
 --
 --     IsPartOf shape q row x       x moves words under row.from as the row and then q do
---     IsBlock shape q row block    such rows, apart, and one wherever q moves what the row gives
+--     IsBlock shape q row block    such rows, apart and ascending, and one wherever q moves what the row gives
 --     HasBlock shape q row old new    a block is added behind rows
+--     IsPartOfSome shape q p x     x moves words as some row of p and then q do
+--     AreBlocks shape q p rows     the blocks of the rows of p, in order
 --     IsRun p w run                the rows whose `from` words are under w, which stand together
 --     IsPairFault fault            what may be wrong with rows that are a pair: they are too large, or memory is wanting
 --     moved_by row other           the row, where the `from` word of the other is a prefix of its `to` word, and then the other
@@ -10,7 +12,7 @@
 use Rattle.std.specs.Prelude.{◌≡◌, ⊤, List, ◌++◌, ℕ, length, drop, Contains}
 use Rattle.ht_word.specs.declared.word.Word.{Word}
 use Rattle.ht_word.specs.declared.shape.Shape.{Shape}
-use Rattle.ht_word.specs.Words.{◌·◌, IsLetters, IsUnder, IsUnderSome}
+use Rattle.ht_word.specs.Words.{◌·◌, IsLetters, IsUnder, IsUnderSome, IsAscending}
 use Rattle.ht_pair.specs.declared.row.Row.{Row}
 use Rattle.ht_pair.specs.declared.fault.RowsFault.{RowsFault}
 use Rattle.ht_pair.specs.declared.fault.RowsFault.TheVariants.{Foreign, FromNotBasis, ToNotBasis, Large, NoMemory}
@@ -27,12 +29,24 @@ pub record IsPartOf (shape : Shape) (q : List Row) (row x : Row) : Type 0 where
 pub record IsBlock (shape : Shape) (q : List Row) (row : Row) (block : List Row) : Type 0 where
   pub parts : (x : Row) → Contains block x → IsPartOf shape q row x
   pub prefix_free : IsPrefixFree (from_words block)
+  pub ascending : IsAscending (from_words block)
   pub covered : (z : List ℕ) → IsUnderSome (row.to · z) (from_words q) → IsUnderSome (row.from · z) (from_words block)
 
 pub record HasBlock (shape : Shape) (q : List Row) (row : Row) (old new : List Row) : Type 0 where
   pub block : List Row
   pub is_block : IsBlock shape q row block
   pub added : new ≡ old ++ block
+
+pub record IsPartOfSome (shape : Shape) (q p : List Row) (x : Row) : Type 0 where
+  pub row : Row
+  pub listed : Contains p row
+  pub part : IsPartOf shape q row x
+
+pub record AreBlocks (shape : Shape) (q p rows : List Row) : Type 0 where
+  pub parts : (x : Row) → Contains rows x → IsPartOfSome shape q p x
+  pub prefix_free : IsPrefixFree (from_words rows)
+  pub ascending : IsAscending (from_words rows)
+  pub covered : (row : Row) → Contains p row → (z : List ℕ) → IsUnderSome (row.to · z) (from_words q) → IsUnderSome (row.from · z) (from_words rows)
 
 pub record IsRun (p : List Row) (w : Word) (run : List Row) : Type 0 where
   pub before : List Row

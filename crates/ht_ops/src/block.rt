@@ -1,9 +1,11 @@
-//! The rows of a product that one row of the first element gives.
-ghost use Rattle.std.specs.Prelude.{◌≡◌, ◌++◌, map, Contains, IfOk, OnOk};
+//! The rows that rows give with an element: a block for each row.
+ghost use Rattle.std.specs.Prelude.{◌≡◌, ◌++◌, map, All, Contains, IfOk, OnOk};
 ghost use Rattle.ht_word.specs.Words.{IsUnder, IsWordOf};
 ghost use Rattle.ht_pair.specs.declared.row.Row.{Row};
 ghost use Rattle.ht_pair.specs.Actions.{IsCanonical};
-ghost use Rattle.ht_ops.specs.Blocks.{moved_by, carried_by, HasBlock};
+ghost use Rattle.ht_pair.specs.Pairs.{IsPair, to_words};
+ghost use Rattle.ht_pair.specs.Tables.{IsTable};
+ghost use Rattle.ht_ops.specs.Blocks.{moved_by, carried_by, HasBlock, AreBlocks};
 
 use crate::run::run_under;
 use ht_pair::{Element, Row, Rows};
@@ -65,4 +67,20 @@ pub(crate) fn add_block(
         }
         None => add_run(alloc, rows, row, run_under(others, &row.to)),
     }
+}
+
+// The rows that the rows give with those of an element, block by block, in order. O(log N)
+// comparisons of words for each row, for the N rows of the element, and one for each row made.
+pub(crate) fn blocks_of(alloc: Global, rows: &[Row], b: &Element) -> Result<Rows, NoMemory>
+    requires table { IsTable b.now.shape rows.now }
+    requires words { All (IsWordOf b.now.shape) (to_words rows.now) }
+    ensures blocks { IfOk result (AreBlocks b.now.shape b.now.rows rows.now) }
+    ensures second { OnOk result (IsPair b.now.shape b.now.rows) }
+{
+    let others = b.rows(alloc)?;
+    let mut blocks = Rows::new(alloc);
+    for row in rows {
+        add_block(alloc, &mut blocks, row, b, others.as_slice())?;
+    }
+    Ok(blocks)
 }

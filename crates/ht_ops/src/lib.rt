@@ -6,7 +6,7 @@
 //! - `inverses`: inverses
 //! - `products`: products
 //! - `powers`: powers
-//! - `block`: the rows of a product that one row of the first element gives
+//! - `block`: the rows that rows give with an element: a block for each row
 //! - `run`: the rows below a word
 #![tactic(auto)]
 

@@ -14,7 +14,7 @@ use Rattle.ht_pair.specs.Merges.{Merges, IsAdded, IsReducedOf}
 use Rattle.ht_pair.specs.Merges.Merges.{unmerged}
 use Rattle.ht_pair.specs.Tables.{IsTable, IsMergedTable}
 use Rattle.ht_pair.proofs.BasisLaws.{longest_bounds, longest_least}
-use Rattle.ht_pair.proofs.ConeOrder.{IsBefore, before_from, before_less, before_apart}
+use Rattle.ht_pair.proofs.ConeOrder.{IsBefore, all_before, before_free, before_ascending}
 use Rattle.ht_pair.proofs.Siblings.{AreOrdered, ordered_words, ordered_front}
 use Rattle.ht_pair.proofs.Carets.{still_reduced}
 use Rattle.ht_pair.proofs.MergeLaws.{merges_ordered, merges_pair, merges_fewer, merges_shorter, merges_moves, merges_then, merges_behind}
@@ -24,14 +24,14 @@ use Rattle.ht_pair.proofs.MovesLaws.{moves_single}
 pub ordered_table : (shape : Shape) (p : List Row) → IsTable shape p → AreOrdered shape p
 ordered_table shape p h = record {
   words = λ row c. All-contains (IsWordOf shape) (from_words p) row.from h.words (Contains-map (λ (t : Row). t.from) p row c);
-  before = AllPairs-from_map (λ (t : Row). t.from) IsBefore p (λ i j d l m. before_from _ _ (h.ascending i j d l m) (h.prefix_free i j d l m));
+  before = AllPairs-from_map (λ (t : Row). t.from) IsBefore p (all_before (from_words p) h.prefix_free h.ascending);
 }
 
 -- and the other way round
 pub table_ordered : (shape : Shape) (p : List Row) → AreOrdered shape p → IsTable shape p
 table_ordered shape p h =
     let before = AllPairs-map (λ (t : Row). t.from) IsBefore p h.before in
-    record { words = ordered_words shape p h; prefix_free = λ i j d l m. before_apart _ _ (before i j d l m); ascending = λ i j d l m. before_less _ _ (before i j d l m) }
+    record { words = ordered_words shape p h; prefix_free = before_free (from_words p) before; ascending = before_ascending (from_words p) before }
 
 -- an ascending pair is a table
 pub pair_table : (shape : Shape) (p : List Row) → IsPair shape p → IsAscending (from_words p) → IsTable shape p

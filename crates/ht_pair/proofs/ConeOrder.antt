@@ -1,5 +1,5 @@
 -- The order of cones, and what follows a cone with nothing between.
-use Rattle.std.proofs.Common.{◌≡◌, ℕ, suc, ◌≤◌, ◌<◌, ◌⊎◌, inl, inr, List, [], ◌∷◌, ◌++◌, length, refl, sym, ap, ◌∙◌, subst, arith, All}
+use Rattle.std.proofs.Common.{◌≡◌, ℕ, suc, ◌≤◌, ◌<◌, ◌⊎◌, inl, inr, List, [], ◌∷◌, ◌++◌, length, refl, sym, ap, ◌∙◌, subst, arith, All, AllPairs}
 use Rattle.std.proofs.lemmas.List.Elements.{All-head, All-tail, All-nil}
 use Rattle.std.specs.Ordering.{nat_cmp, ordering_then}
 use Rattle.std.specs.Cmp.{nat_cmp_is}
@@ -7,10 +7,10 @@ use Rattle.std.specs.Cmp.Lexicographic.{slice_cmp}
 use Rattle.std.specs.declared.cmp.Ordering.TheVariants.{Less, Equal}
 use Rattle.ht_word.specs.declared.word.Word.{Word}
 use Rattle.ht_word.specs.declared.shape.Shape.{Shape}
-use Rattle.ht_word.specs.Words.{◌·◌, child, word_cmp, IsLetter, IsLetters, IsWordOf, IsUnder}
+use Rattle.ht_word.specs.Words.{◌·◌, child, word_cmp, IsLetter, IsLetters, IsWordOf, IsUnder, IsAscending}
 use Rattle.ht_word.proofs.WordLaws.{word_eq, after-nil, under_refl, under_same, word_cmp_once}
 use Rattle.ht_word.proofs.ListLaws.{trichotomy}
-use Rattle.ht_pair.specs.Bases.{AreApart}
+use Rattle.ht_pair.specs.Bases.{AreApart, IsPrefixFree}
 use Rattle.ht_pair.specs.Tilings.{path, NextPath, Follows}
 
 -- the lists part at an entry that is less in the first
@@ -179,3 +179,29 @@ below_entry (a ∷ s) c d l = inr (refl, below_entry s c d l)
 -- children are in the order of their letters
 pub child_before : (x : Word) (c d : ℕ) → c < d → IsBefore (child x c) (child x d)
 child_before x c d l = below_entry (path x) c d l
+
+-- lists that part behind one list part so alone
+below_behind : (s y z : List ℕ) → IsBelow (s ++ y) (s ++ z) → IsBelow y z
+below_behind [] y z h = h
+below_behind (a ∷ s) y z (inl l) = absurd (omega arith)
+below_behind (a ∷ s) y z (inr h) = below_behind s y z h.1
+
+-- and the other way round
+below_under : (s y z : List ℕ) → IsBelow y z → IsBelow (s ++ y) (s ++ z)
+below_under [] y z h = h
+below_under (a ∷ s) y z h = inr (refl, below_under s y z h)
+
+-- what is before behind one word is so behind another
+pub before_behind : (u v : Word) (y z : List ℕ) → IsBefore (u · y) (u · z) → IsBefore (v · y) (v · z)
+before_behind u v y z h = below_under (path v) y z (below_behind (path u) y z h)
+
+-- ascending words that are apart are in order of cones
+pub all_before : (W : List Word) → IsPrefixFree W → IsAscending W → AllPairs IsBefore W
+all_before W free ascending i j d l m = before_from _ _ (ascending i j d l m) (free i j d l m)
+
+-- and the other way round
+pub before_free : (W : List Word) → AllPairs IsBefore W → IsPrefixFree W
+before_free W before i j d l m = before_apart _ _ (before i j d l m)
+
+pub before_ascending : (W : List Word) → AllPairs IsBefore W → IsAscending W
+before_ascending W before i j d l m = before_less _ _ (before i j d l m)

@@ -15,7 +15,7 @@ use Rattle.ht_pair.specs.Merges.{each_to, child_rows, Merges}
 use Rattle.ht_pair.specs.Merges.Merges.{unmerged, merged}
 use Rattle.ht_pair.proofs.BasisLaws.{children_to, children_hold, longest_bounds, longest_least}
 use Rattle.ht_pair.proofs.Merging.{in_merged, first_child, words_merged, free_merged, covers_merged}
-use Rattle.ht_pair.proofs.ConeOrder.{IsBefore, before_irreflexive, before_trans, before_extended, before_apart, apart_before}
+use Rattle.ht_pair.proofs.ConeOrder.{IsBefore, before_irreflexive, before_trans, before_extended, before_free, apart_before}
 use Rattle.ht_pair.proofs.Siblings.{AreOrdered, ordered_words}
 use Rattle.ht_pair.proofs.Sequences.{each_hold, each_of, length-each, each-map}
 
@@ -83,7 +83,7 @@ ordered_merged shape A B u v h =
     let is = map-append (λ (row : Row). row.from) A (row ∷ B) in
     let words : All (IsWordOf shape) (from_words A ++ K ++ from_words B) = subst (All (IsWordOf shape)) around (ordered_words shape p h) in
     let before : AllPairs IsBefore (from_words A ++ K ++ from_words B) = subst (AllPairs IsBefore) around (AllPairs-map (λ (t : Row). t.from) IsBefore p h.before) in
-    let free : IsPrefixFree (from_words A ++ u ∷ from_words B) = free_merged shape (from_words A) (from_words B) u words (λ i j d l m. before_apart _ _ (before i j d l m)) in
+    let free : IsPrefixFree (from_words A ++ u ∷ from_words B) = free_merged shape (from_words A) (from_words B) u words (before_free (from_words A ++ K ++ from_words B) before) in
     let first = children_hold u shape.n 1 (omega arith) (omega (arith, shape.letters_low)) in
     let new_words : All (IsWordOf shape) (from_words q) = subst (All (IsWordOf shape)) (sym is) (words_merged shape (from_words A) (from_words B) u words) in
     let new_before : AllPairs IsBefore (from_words q) = subst (AllPairs IsBefore) (sym is) (before_merged (from_words A) K (from_words B) u 1 first free before) in

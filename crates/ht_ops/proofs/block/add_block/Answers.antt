@@ -9,5 +9,5 @@ returns-in_ok-push-in-Some c =
 
 pub returns-in-None : goal.returns-in-None
 returns-in-None c =
-    on_ok_weaker c.add_run.result (run_added c.args.b.now.shape c.args.others.now c.args.b.now.rows c.args.row.now c.run_under.result.now c.args.rows.now c.add_run.new.rows c.requires.same c.requires.canonical.pair.from c.run_under.ensures c.in-None.ensures)
+    on_ok_weaker c.add_run.result (run_added c.args.b.now.shape c.args.others.now c.args.b.now.rows c.args.row.now c.run_under.result.now c.args.rows.now c.add_run.new.rows c.requires.same c.requires.canonical c.run_under.ensures c.in-None.ensures)
     c.add_run.ensures

@@ -1,0 +1,6 @@
+use Rattle.std.proofs.Common.{drop}
+use Rattle.ht_ops.proofs.BlockLaws.{AreBlocksUpTo}
+use Rattle.ht_ops.proofs.block.blocks_of.Given as goal
+
+abbrev pub invariant-loop-row : goal.invariant-loop-row
+invariant-loop-row l = AreBlocksUpTo l.b.shape l.rows l.b.rows l.blocks (drop l.row-index l.rows)
