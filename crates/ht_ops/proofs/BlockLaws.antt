@@ -25,7 +25,7 @@ use Rattle.ht_pair.proofs.PrefixMapLaws.{Then, then_map, IsPrefixMap, RowsOf, le
 use Rattle.ht_pair.proofs.ProductLaws.{product_of}
 use Rattle.ht_pair.proofs.RowSearch.{letters_behind}
 use Rattle.ht_ops.proofs.RunLaws.{read_same}
-use Rattle.ht_ops.specs.Blocks.{IsPartOf, IsBlock, HasBlock, IsPartOfSome, AreBlocks, IsRun, moved_by, carried_by}
+use Rattle.ht_ops.specs.Blocks.{IsPartOf, IsBlock, HasBlock, AreBlocks, IsRun, moved_by, carried_by}
 
 -- the cone of the first row's `from` word is before that of the second's
 abbrev IsRowBefore : Row → Row → Type 0
@@ -245,6 +245,10 @@ rows_words shape p q rows words h = All-from_contains (IsWordOf shape) (from_wor
     let g = contained_in_map (λ (t : Row). t.from) rows w c in
     let s = h.parts g.0 g.1 in
     subst (IsWordOf shape) (sym s.part.from ∙ g.2) (word_after shape s.row.from s.part.rest (All-contains (IsWordOf shape) (from_words p) s.row.from words (Contains-map (λ (t : Row). t.from) p s.row s.listed)) s.part.letters))
+
+-- the blocks of a table are a table
+pub blocks_table : (shape : Shape) (p q rows : List Row) → IsTable shape p → AreBlocks shape q p rows → IsTable shape rows
+blocks_table shape p q rows table h = record { words = rows_words shape p q rows table.words h; prefix_free = h.prefix_free; ascending = h.ascending }
 
 -- and a basis
 from_basis : (shape : Shape) (p q rows : List Row) → IsPair shape p → IsPair shape q → AreBlocks shape q p rows → IsBasis shape (from_words rows)

@@ -4,3 +4,4 @@ pub mod Turning
 pub mod RunLaws
 pub mod BlockLaws
 pub mod PowerChains
+pub mod ImageSteps

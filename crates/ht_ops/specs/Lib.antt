@@ -1,2 +1,3 @@
 pub use Rattle.ht_pair.specs.Products
 pub mod Blocks
+pub mod ImageRows

@@ -3,6 +3,7 @@
 //!
 //! `product(alloc, &a, &power(alloc, &a, -1)?)?` is the identity.
 //!
+//! - `image`: where powers of elements, one after another, send the words under a word
 //! - `inverses`: inverses
 //! - `products`: products
 //! - `powers`: powers
@@ -11,11 +12,13 @@
 #![tactic(auto)]
 
 mod block;
+mod image;
 mod inverses;
 mod powers;
 mod products;
 mod run;
 
+pub use image::Image;
 pub use inverses::inverse;
 pub use powers::power;
 pub use products::product;

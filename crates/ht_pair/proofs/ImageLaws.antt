@@ -9,8 +9,8 @@ use Rattle.ht_word.specs.declared.shape.Shape.{Shape}
 use Rattle.ht_word.specs.declared.word.Word.{Word}
 use Rattle.ht_word.proofs.ListLaws.{Contains-here, Contains-map, contained_in_map, ascending_same}
 use Rattle.ht_word.proofs.WordLaws.{after-append, after_cancel, under_after, under_trans, length-after, under_length, word_after, word_rest, word_cmp_once}
-use Rattle.ht_pair.specs.Bases.{IsPrefixFree, longest}
-use Rattle.ht_pair.specs.Images.{Entry, words_behind, IsImage}
+use Rattle.ht_pair.specs.Bases.{IsPrefixFree, longest, Covers}
+use Rattle.ht_pair.specs.Images.{Entry, words_behind, IsMerged, IsImage}
 use Rattle.ht_pair.specs.Pairs.{from_words, IsPair}
 use Rattle.ht_pair.specs.Steps.{Carries}
 use Rattle.ht_pair.specs.declared.row.Row.{Row}
@@ -31,15 +31,15 @@ image_covers shape p k u L z image word letters l =
 -- ---- a word has one image
 
 -- the row of an entry
-unfoldable row_behind : Word → Entry → Row
+unfoldable pub row_behind : Word → Entry → Row
 row_behind u e = record { from = u · e.letters; to = e.word }
 
 -- the rows of the entries
-abbrev rows_behind : Word → List Entry → List Row
+abbrev pub rows_behind : Word → List Entry → List Row
 rows_behind u L = map (row_behind u) L
 
 -- their `from` words are the words behind u
-from_words-behind : (u : Word) (L : List Entry) → from_words (rows_behind u L) ≡ words_behind u L
+pub from_words-behind : (u : Word) (L : List Entry) → from_words (rows_behind u L) ≡ words_behind u L
 unfolding row_behind
 from_words-behind u [] = refl
 from_words-behind u (e ∷ L) = ap (λ (W : List Word). (u · e.letters) ∷ W) (from_words-behind u L)
@@ -53,21 +53,21 @@ same_entry u d e is =
     λ i. record { letters = letters i; word = word i }
 
 -- an entry whose row is listed is listed
-entry_listed : (u : Word) (L : List Entry) (e : Entry) → Contains (rows_behind u L) (row_behind u e) → Contains L e
+pub entry_listed : (u : Word) (L : List Entry) (e : Entry) → Contains (rows_behind u L) (row_behind u e) → Contains L e
 entry_listed u L e c = let g = contained_in_map (row_behind u) L (row_behind u e) c in subst (Contains L) (same_entry u g.0 e g.2) g.1
 
--- the rows of an image are reduced on the words under u
-image_reduced : (shape : Shape) (p : List Row) (k : ℤ) (u : Word) (L : List Entry) → IsImage shape p k u L → IsReducedOn shape (λ w. IsUnder w u) (rows_behind u L)
+-- the rows of merged entries that cover u are reduced on the words under u
+pub entries_reduced : (shape : Shape) (u : Word) (L : List Entry) → Covers shape (words_behind u L) (u ∷ []) → IsMerged shape L → IsReducedOn shape (λ w. IsUnder w u) (rows_behind u L)
 unfolding row_behind
-image_reduced shape p k u L image = record {
-  words = subst (All (IsWordOf shape)) (sym (from_words-behind u L)) image.covers.words;
-  prefix_free = subst IsPrefixFree (sym (from_words-behind u L)) image.covers.prefix_free;
+entries_reduced shape u L covers merged = record {
+  words = subst (All (IsWordOf shape)) (sym (from_words-behind u L)) covers.words;
+  prefix_free = subst IsPrefixFree (sym (from_words-behind u L)) covers.prefix_free;
   inside = λ row c. let g = contained_in_map (row_behind u) L row c in record { rest = g.0.letters; is = ap (λ (t : Row). t.from) (sym g.2) };
   deeper = λ w z d. under_trans (under_after w z) d;
   holds = λ w h d l. subst (IsUnderSome w) (sym (from_words-behind u L))
-      ((covers_long shape (words_behind u L) (u ∷ []) image.covers w h (omega (arith, l, under_length d, ap (λ (W : List Word). longest W) (from_words-behind u L)))).1
+      ((covers_long shape (words_behind u L) (u ∷ []) covers w h (omega (arith, l, under_length d, ap (λ (W : List Word). longest W) (from_words-behind u L)))).1
       (some_at (u ∷ []) u w (Contains-here u []) d));
-  reduced = λ w v d rows. image.merged d.rest v (λ a low high. entry_listed u L (record { letters = d.rest ++ a ∷ []; word = child v a })
+  reduced = λ w v d rows. merged d.rest v (λ a low high. entry_listed u L (record { letters = d.rest ++ a ∷ []; word = child v a })
       (subst (λ t. Contains (rows_behind u L) (record { from = t; to = child v a })) (ap (λ t. child t a) d.is ∙ after-append u d.rest (a ∷ [])) (rows a low high)));
 }
 
@@ -95,5 +95,5 @@ image_once shape p k u L M pair first second = ascending_same (λ (d : Entry) (e
     (listed M L second first)
   where
     listed : (L M : List Entry) → IsImage shape p k u L → IsImage shape p k u M → (e : Entry) → Contains L e → Contains M e
-    listed L M first second e c = entry_listed u M e (same_rows shape (λ w. IsUnder w u) (rows_behind u M) (rows_behind u L) (image_reduced shape p k u M second) (image_reduced shape p k u L first)
+    listed L M first second e c = entry_listed u M e (same_rows shape (λ w. IsUnder w u) (rows_behind u M) (rows_behind u L) (entries_reduced shape u M second.covers second.merged) (entries_reduced shape u L first.covers first.merged)
         (image_moves shape p k u M L pair second first) (image_moves shape p k u L M pair first second) (row_behind u e) (Contains-map (row_behind u) L e c))

@@ -40,6 +40,7 @@ pub mod KindLaws
 pub mod ReachLaws
 pub mod PartLaws
 pub mod ImageLaws
+pub mod ValueListLaws
 pub mod OrbitLaws
 pub mod TogetherLaws
 pub mod AtomLaws

@@ -1,6 +1,6 @@
 //! Laws of the definitions, each the contract of a function that does nothing: words, bases,
 //! pairs, powers, conjugacy, kinds, parts and orbits are what a group theorist means by them.
-ghost use Rattle.std.specs.Prelude.{◌≡◌, ◌≢◌, ℕ, ◌≤◌, ℤ, pos, neg_ℤ, ◌+ℤ◌, ◌-ℤ◌, ◌↔◌, List, length, Contains, Option};
+ghost use Rattle.std.specs.Prelude.{◌≡◌, ◌≢◌, ℕ, ◌≤◌, ℤ, pos, neg_ℤ, ◌+ℤ◌, ◌-ℤ◌, ◌↔◌, List, [], ◌∷◌, length, Contains, Option};
 ghost use Rattle.ht_word.specs.declared.word.Word.{Word};
 ghost use Rattle.ht_word.specs.declared.shape.Shape.{Shape};
 ghost use Rattle.ht_word.specs.Words.{◌·◌, IsLetters, IsUnder, IsUnderSome, IsWordOf};
@@ -164,6 +164,14 @@ pub fn an_image_tells_where_words_go()
     ensures covers { (shape : Shape) (p : List Row) (k : ℤ) (u : Word) (L : List Entry) (z : List ℕ) → IsImage shape p k u L → IsWordOf shape u → IsLetters shape z → longest (words_behind u L) ≤ length ((u · z).letters) → IsUnderSome (u · z) (words_behind u L) }
     ensures one { (shape : Shape) (p : List Row) (k : ℤ) (u : Word) (L M : List Entry) → IsPair shape p → IsImage shape p k u L → IsImage shape p k u M → L ≡ M }
     ensures followed { (shape : Shape) (p : List Row) (k : ℤ) (L M : List Entry) → IsFollowed shape L p k M → IsValueList shape M }
+{}
+
+/// The entry without letters and a word is a value list; what follows it by a power is the image of
+/// the word; and just one value list follows a value list by a power.
+pub fn what_follows_a_word_is_its_image()
+    ensures cone { (shape : Shape) (u : Word) → IsWordOf shape u → IsValueList shape (record { letters = []; word = u } ∷ []) }
+    ensures image { (shape : Shape) (p : List Row) (k : ℤ) (u : Word) (L : List Entry) → IsWordOf shape u → IsFollowed shape (record { letters = []; word = u } ∷ []) p k L → IsImage shape p k u L }
+    ensures one { (shape : Shape) (p : List Row) (k : ℤ) (L M N : List Entry) → IsPair shape p → IsValueList shape L → IsFollowed shape L p k M → IsFollowed shape L p k N → M ≡ N }
 {}
 
 /// A pond's power is at least the second, and a word has one pond at most.

@@ -1,7 +1,4 @@
-use Rattle.std.proofs.Common.{sym, ◌∙◌, subst, subst₂}
-use Rattle.std.proofs.lemmas.Result.{on_ok_weaker}
-use Rattle.ht_word.specs.declared.shape.Shape.{Shape}
-use Rattle.ht_pair.specs.Pairs.{IsPair}
+use Rattle.std.proofs.Common.{sym, ◌∙◌, subst₂}
 use Rattle.ht_pair.specs.Tables.{IsTable}
 use Rattle.ht_pair.proofs.Canonical.{pair_table}
 use Rattle.ht_ops.proofs.BlockLaws.{product_answered}
