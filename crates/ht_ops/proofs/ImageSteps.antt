@@ -21,7 +21,7 @@ use Rattle.ht_pair.proofs.MovesLaws.{moves_single, moves_extends, moves_map}
 use Rattle.ht_pair.proofs.ValueListLaws.{root_one, value_table, value_words, table_value, sends_moves, value_covers}
 use Rattle.ht_ops.proofs.BlockLaws.{rows_words}
 use Rattle.ht_ops.specs.Blocks.{AreBlocks}
-use Rattle.ht_ops.specs.ImageRows.{entries_of, AreBehindRoot}
+use Rattle.ht_ops.specs.ImageRows.{entry_of, entries_of, AreBehindRoot}
 
 -- ---- the rows of an image
 
@@ -180,3 +180,17 @@ entry_under u e = record { from = u · e.letters; to = e.word }
 pub rows_under : (u : Word) (p : List Row) → map (moved_under u) p ≡ map (entry_under u) (entries_of p)
 rows_under u [] = refl
 rows_under u (row ∷ p) = ap (λ (t : List Row). moved_under u row ∷ t) (rows_under u p)
+
+-- rows from root 1 with the letters have the root 1
+pub copied_behind : (u : Word) (given rows : List Row) → u ≡ root_word 1 → rows ≡ map (moved_under u) given → AreBehindRoot rows
+copied_behind u given rows root is = All-from_contains (λ (row : Row). row.from.root ≡ 1) rows (λ x c.
+    let g = contained_in_map (moved_under u) given x (subst (λ (t : List Row). Contains t x) is c) in
+    ap (λ (t : Row). t.from.root) (sym g.2) ∙ ap (λ (w : Word). w.root) root)
+
+-- and the same entries
+entries_copied : (p : List Row) → entries_of (map (moved_under (root_word 1)) p) ≡ entries_of p
+entries_copied [] = refl
+entries_copied (row ∷ p) = ap (λ (t : List Entry). entry_of row ∷ t) (entries_copied p)
+
+pub copied : (u : Word) (p given rows : List Row) (L : List Entry) → u ≡ root_word 1 → given ≡ p → entries_of p ≡ L → rows ≡ map (moved_under u) given → entries_of rows ≡ L
+copied u p given rows L root same view is = ap (λ (t : List Row). entries_of t) (is ∙ (λ i. map (moved_under (root i)) (same i))) ∙ entries_copied p ∙ view

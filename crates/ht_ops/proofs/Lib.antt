@@ -5,3 +5,4 @@ pub mod RunLaws
 pub mod BlockLaws
 pub mod PowerChains
 pub mod ImageSteps
+pub mod Walking

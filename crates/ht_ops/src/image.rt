@@ -1,16 +1,22 @@
 //! Images: where powers of elements, one after another, send the words under a word.
-ghost use Rattle.std.specs.Prelude.{◌≡◌, ◌≢◌, [], ◌∷◌, map, pos, IfOk, MatchOption};
+ghost use Rattle.std.specs.Prelude.{◌≡◌, ◌≢◌, ◌-◌, ◌^◌, [], ◌∷◌, map, pos, negsuc, ◌≤ℤ◌, IfOk, MatchOption};
 ghost use Rattle.ht_word.specs.declared.word.Word.{Word};
 ghost use Rattle.ht_word.specs.Words.{◌·◌};
 ghost use Rattle.ht_pair.specs.declared.row.Row.{Row};
 ghost use Rattle.ht_pair.specs.Images.{Entry};
 ghost use Rattle.ht_pair.specs.ValueLists.{IsValueList, IsFollowed};
+ghost use Rattle.ht_ops.specs.Walks.{IsWalked};
 
 use crate::block::blocks_of;
-use ht_pair::{Element, Row, Rows, merge_table};
+use crate::inverses::inverse;
+use crate::powers::power;
+use ht_pair::{Element, OpFault, Row, Rows, merge_table};
 use ht_word::{NoMemory, Word};
 use std::alloc::Global;
 use std::marker::Model;
+
+// The most steps that are made without trying the power.
+const MOST_WALKED: u128 = 1_024;
 
 /// Where powers of elements, one after another, send the words under one word: a list of entries,
 /// each of letters behind the word and the word that they lead to, in order of the letters.
@@ -43,8 +49,19 @@ impl Image {
         Ok(Image { rows })
     }
 
+    /// An equal image. Copies the words.
+    pub fn copy(&self, alloc: Global) -> Result<Image, NoMemory>
+        ensures { IfOk result (λ copy. copy ≡ self.now) }
+    {
+        let root = Word::new(alloc, 1);
+        let rows = rows_behind(alloc, &root, self.rows.as_slice())?;
+        Ok(Image { rows })
+    }
+
     /// The image followed by the element. For M entries and the element's N rows O(M log N)
-    /// comparisons of words, and one pass over the letters of the at most M + N rows made.
+    /// comparisons of words, one more for each row made, and one pass over these. At most M + N rows
+    /// are made where no two entries' words are one above the other, as in each image that steps lead
+    /// to from a cone.
     pub fn step(&self, alloc: Global, f: &Element) -> Result<Image, NoMemory>
         requires { IsValueList f.now.shape self.now }
         ensures { IfOk result (IsFollowed f.now.shape self.now f.now.rows (pos 1)) }
@@ -52,6 +69,25 @@ impl Image {
         let moved = blocks_of(alloc, self.rows.as_slice(), f)?;
         let rows = merge_table(alloc, f.shape(), moved)?;
         Ok(Image { rows })
+    }
+
+    /// The image followed by the k-th power of the element. Up to 1,024 steps are made one after
+    /// another, with the element or its inverse. Beyond that the power is made first, and is one step:
+    /// so elements of finite order answer at once. Only where the power is large all |k| steps are
+    /// made.
+    pub fn steps(&self, alloc: Global, f: &Element, k: i128) -> Result<Image, NoMemory>
+        requires { IsValueList f.now.shape self.now }
+        ensures { IfOk result (λ image. IsFollowed f.now.shape self.now f.now.rows k image) }
+    {
+        f.keeps_limits();
+        if k.unsigned_abs() <= MOST_WALKED {
+            return self.walk(alloc, f, k);
+        }
+        match power(alloc, f, k) {
+            Ok(whole) => self.step(alloc, &whole),
+            Err(OpFault::Large { .. }) => self.walk(alloc, f, k),
+            Err(OpFault::NoMemory) => Err(NoMemory),
+        }
     }
 
     /// The word that the whole cone is sent to; `None` exactly where it isn't sent to one cone. No
@@ -75,6 +111,32 @@ impl Image {
         ensures { IfOk result (λ rows. rows ≡ map (λ (e : Entry). record { from = base.now · e.letters; to = e.word }) self.now) }
     {
         rows_behind(alloc, base, self.rows.as_slice())
+    }
+
+    // The image followed by the k-th power, step by step.
+    fn walk(&self, alloc: Global, f: &Element, k: i128) -> Result<Image, NoMemory>
+        requires { IsValueList f.now.shape self.now }
+        ensures { IfOk result (λ image. IsFollowed f.now.shape self.now f.now.rows k image) }
+    {
+        f.keeps_limits();
+        if k < 0 {
+            let back = inverse(alloc, f)?;
+            self.walk_by(alloc, &back, k.unsigned_abs())
+        } else {
+            self.walk_by(alloc, f, k.unsigned_abs())
+        }
+    }
+
+    // The image followed so many times by the element.
+    fn walk_by(&self, alloc: Global, g: &Element, count: u128) -> Result<Image, NoMemory>
+        requires { IsValueList g.now.shape self.now }
+        ensures { IfOk result (IsWalked g.now.shape self.now g.now.rows count) }
+    {
+        let mut image = self.copy(alloc)?;
+        for _step in 0..count {
+            image = image.step(alloc, g)?;
+        }
+        Ok(image)
     }
 }
 
