@@ -7,7 +7,7 @@ use Rattle.ht_answer.specs.declared.answer.Answer.{Answer}
 use Rattle.ht_answer.specs.declared.answer.Answer.TheVariants.{Blank, Group, Pair, Let, Equal, Refused}
 use Rattle.ht_answer.specs.declared.answer.Refusal.{Refusal}
 use Rattle.ht_answer.specs.declared.answer.Refusal.TheVariants as refusal
-use Rattle.ht_answer.specs.Answers.{IsRefusal, answer_text}
+use Rattle.ht_answer.specs.Answers.{IsRefusal, number_line, answer_text}
 
 -- the text begins with `refused: `
 abbrev pub BeginsRefused : List ℕ → Type 0
@@ -22,6 +22,8 @@ refusal_begins refusal.Names = (codes "names\n", refl)
 refusal_begins (refusal.RowsForeign place) = (codes "rows foreign " ++ decimal place ++ codes "\n", refl)
 refusal_begins refusal.RowsFrom = (codes "rows from\n", refl)
 refusal_begins refusal.RowsTo = (codes "rows to\n", refl)
+refusal_begins refusal.Wide = (codes "wide\n", refl)
+refusal_begins (refusal.Large rows letters) = (codes "large " ++ decimal rows ++ number_line (codes " ") letters, refl)
 
 -- lists with other first items are others
 other_head : (a b : ℕ) (x y : List ℕ) → a ≢ b → a ∷ x ≢ b ∷ y

@@ -39,6 +39,8 @@ refusal_text refusal.Names = codes "refused: names\n"
 refusal_text (refusal.RowsForeign place) = number_line (codes "refused: rows foreign ") place
 refusal_text refusal.RowsFrom = codes "refused: rows from\n"
 refusal_text refusal.RowsTo = codes "refused: rows to\n"
+refusal_text refusal.Wide = codes "refused: wide\n"
+refusal_text (refusal.Large rows letters) = codes "refused: large " ++ decimal rows ++ number_line (codes " ") letters
 
 abbrev pub answer_text : Answer → List ℕ
 answer_text Blank = []

@@ -39,6 +39,11 @@ pub enum Refusal {
     RowsFrom,
     /// The `to` words of the rows aren't a basis.
     RowsTo,
+    /// An exponent of the line is more than 2^127-1 in absolute value.
+    Wide,
+    /// An element that the line makes has more than 8,192 rows or a word of more than 1,024
+    /// letters: the first such one's number of rows, and the letters of its longest word.
+    Large { rows: usize, letters: usize },
 }
 
 impl Answer {

@@ -82,6 +82,8 @@ fn print_refusal(why: &Refusal, out: &mut Vec<u8>) -> Result<(), NoMemory>
         Refusal::RowsForeign(place) => write_line(b"refused: rows foreign ", *place, out),
         Refusal::RowsFrom => write_text(b"refused: rows from\n", out),
         Refusal::RowsTo => write_text(b"refused: rows to\n", out),
+        Refusal::Wide => write_text(b"refused: wide\n", out),
+        Refusal::Large { rows, letters } => print_large(*rows, *letters, out),
     }
 }
 
@@ -94,6 +96,16 @@ fn print_unbound(name: &Name, out: &mut Vec<u8>) -> Result<(), NoMemory>
     out.extend_from_slice(name.as_slice())?;
     out.push(b'\n')?;
     Ok(())
+}
+
+// Appends the refusal of an element that is too large.
+fn print_large(rows: usize, letters: usize, out: &mut Vec<u8>) -> Result<(), NoMemory>
+    ensures ok { OnOk result (out.new.items ≡ out.old.items ++ refusal_text (Refusal.Large rows letters)) }
+    ensures err { OnErr result (AddsFront out.old.items out.new.items (refusal_text (Refusal.Large rows letters))) }
+{
+    out.extend_from_slice(b"refused: large ")?;
+    write_size(rows, out)?;
+    write_line(b" ", letters, out)
 }
 
 // Appends the end of a line: a text and a number.
