@@ -1,5 +1,5 @@
 -- Entries of a map: what is bound to names, with the elements and with their rows.
-use Rattle.std.proofs.Common.{◌≡◌, ◌≢◌, ◌<◌, ◌↔◌, ℕ, List, [], ◌∷◌, Bool, true, false, refl, ap, ◌∙◌, sym, subst, inl, inr, Option, Some, None, Result, Ok, Err, OnOk, OnErr, MatchOption, Bor}
+use Rattle.std.proofs.Common.{◌≡◌, ◌≢◌, ◌<◌, ◌↔◌, ℕ, List, [], ◌∷◌, Bool, true, false, refl, ap, sym, subst, inl, inr, Option, Some, None, Result, Ok, Err, OnOk, OnErr, MatchOption, Bor}
 use Rattle.std.specs.Prelude.{nat_eq, if◌then◌else◌}
 use Rattle.std.specs.Option.{option_copied}
 use Rattle.std.specs.Cmp.Lexicographic.{pointwise}
@@ -10,7 +10,7 @@ use Rattle.indexmap.specs.IndexMap.{insert_entry}
 use Rattle.ht_word.specs.declared.shape.Shape.{Shape}
 use Rattle.ht_pair.specs.declared.row.Row.{Row}
 use Rattle.ht_pair.specs.Elements.{ElementValue}
-use Rattle.ht_calc.specs.Names.{rows_by_name, AreOfShape, bound, bind, HasRoom}
+use Rattle.ht_calc.specs.Names.{rows_by_name, IsOfShape, AreOfShape, bound, bind, HasRoom}
 
 -- the rows of an element, if there is one
 abbrev pub rows_of : Option ElementValue → Option (List Row)
@@ -64,7 +64,8 @@ pub bind_rows : (entries : List (List ℕ × ElementValue)) (name : List ℕ) (e
 bind_rows [] name element = refl
 bind_rows (entry ∷ entries) name element = bind_rows_at (pointwise nat_eq name entry.0) entry entries (bind entries name element) (bind (rows_by_name entries) name element.rows) element (bind_rows entries name element)
 
-bound_somewhere : (found : Option ElementValue) → (rows_of found ≢ None) ↔ (found ≢ None)
+-- there is an element where there are rows
+pub bound_somewhere : (found : Option ElementValue) → (rows_of found ≢ None) ↔ (found ≢ None)
 bound_somewhere None = ((λ some e. some refl), (λ some e. some refl))
 bound_somewhere (Some element) = ((λ some e. cc), (λ some e. cc))
 
@@ -84,33 +85,33 @@ same_room entries name = (
 -- ---- shapes
 
 -- an entry's element is of the shape
-abbrev IsOfShape : Option Shape → List ℕ × ElementValue → Type 0
-IsOfShape shape entry = Some (entry.1.shape) ≡ shape
+abbrev IsEntryOf : Option Shape → List ℕ × ElementValue → Type 0
+IsEntryOf shape entry = IsOfShape shape entry.1
 
-found_at : (shape : Option Shape) (b : Bool) (entry : List ℕ × ElementValue) (rest : Option ElementValue) (element : ElementValue) → IsOfShape shape entry → (rest ≡ Some element → Some (element.shape) ≡ shape)
-    → (if b then Some entry.1 else rest) ≡ Some element → Some (element.shape) ≡ shape
-found_at shape true entry rest element is other e = let same : entry.1 ≡ element = cc in ap (λ (t : ElementValue). Some (t.shape)) (sym same) ∙ is
+found_at : (shape : Option Shape) (b : Bool) (entry : List ℕ × ElementValue) (rest : Option ElementValue) (element : ElementValue) → IsEntryOf shape entry → (rest ≡ Some element → IsOfShape shape element)
+    → (if b then Some entry.1 else rest) ≡ Some element → IsOfShape shape element
+found_at shape true entry rest element is other e = let same : entry.1 ≡ element = cc in subst (IsOfShape shape) same is
 found_at shape false entry rest element is other e = other e
 
 -- the element that is bound to a name is of the shape
-pub bound_of_shape : (shape : Option Shape) (entries : List (List ℕ × ElementValue)) (name : List ℕ) (element : ElementValue) → AreOfShape shape entries → bound entries name ≡ Some element → Some (element.shape) ≡ shape
-bound_of_shape shape [] name element h e = cc
+pub bound_of_shape : (shape : Option Shape) (entries : List (List ℕ × ElementValue)) (name : List ℕ) (element : ElementValue) → AreOfShape shape entries → bound entries name ≡ Some element → IsOfShape shape element
+bound_of_shape shape [] name element h e = absurd cc
 bound_of_shape shape (entry ∷ entries) name element h e =
-    found_at shape (pointwise nat_eq name entry.0) entry (bound entries name) element (All-head (IsOfShape shape) entry entries h) (bound_of_shape shape entries name element (All-tail (IsOfShape shape) entry entries h)) e
+    found_at shape (pointwise nat_eq name entry.0) entry (bound entries name) element (All-head (IsEntryOf shape) entry entries h) (bound_of_shape shape entries name element (All-tail (IsEntryOf shape) entry entries h)) e
 
-bind_at : (shape : Option Shape) (b : Bool) (entry : List ℕ × ElementValue) (entries others : List (List ℕ × ElementValue)) (element : ElementValue) → AreOfShape shape (entry ∷ entries) → Some (element.shape) ≡ shape → AreOfShape shape others
+bind_at : (shape : Option Shape) (b : Bool) (entry : List ℕ × ElementValue) (entries others : List (List ℕ × ElementValue)) (element : ElementValue) → AreOfShape shape (entry ∷ entries) → IsOfShape shape element → AreOfShape shape others
     → AreOfShape shape (if b then (entry.0, element) ∷ entries else entry ∷ others)
-bind_at shape true entry entries others element h is rest = All-cons (IsOfShape shape) (entry.0, element) entries is (All-tail (IsOfShape shape) entry entries h)
-bind_at shape false entry entries others element h is rest = All-cons (IsOfShape shape) entry others (All-head (IsOfShape shape) entry entries h) rest
+bind_at shape true entry entries others element h is rest = All-cons (IsEntryOf shape) (entry.0, element) entries is (All-tail (IsEntryOf shape) entry entries h)
+bind_at shape false entry entries others element h is rest = All-cons (IsEntryOf shape) entry others (All-head (IsEntryOf shape) entry entries h) rest
 
 -- with one more element of the shape all are of it
-bind_of_shape : (shape : Option Shape) (entries : List (List ℕ × ElementValue)) (name : List ℕ) (element : ElementValue) → AreOfShape shape entries → Some (element.shape) ≡ shape → AreOfShape shape (bind entries name element)
-bind_of_shape shape [] name element h is = All-cons (IsOfShape shape) (name, element) [] is (All-nil (IsOfShape shape))
+bind_of_shape : (shape : Option Shape) (entries : List (List ℕ × ElementValue)) (name : List ℕ) (element : ElementValue) → AreOfShape shape entries → IsOfShape shape element → AreOfShape shape (bind entries name element)
+bind_of_shape shape [] name element h is = All-cons (IsEntryOf shape) (name, element) [] is (All-nil (IsEntryOf shape))
 bind_of_shape shape (entry ∷ entries) name element h is =
-    bind_at shape (pointwise nat_eq name entry.0) entry entries (bind entries name element) element h is (bind_of_shape shape entries name element (All-tail (IsOfShape shape) entry entries h) is)
+    bind_at shape (pointwise nat_eq name entry.0) entry entries (bind entries name element) element h is (bind_of_shape shape entries name element (All-tail (IsEntryOf shape) entry entries h) is)
 
 -- and where it found no memory they still are
-pub still_of_shape : {T E : Type 0} (shape : Option Shape) (old new : List (List ℕ × ElementValue)) (name : List ℕ) (element : ElementValue) (result : Result T E) → AreOfShape shape old → Some (element.shape) ≡ shape
+pub still_of_shape : {T E : Type 0} (shape : Option Shape) (old new : List (List ℕ × ElementValue)) (name : List ℕ) (element : ElementValue) (result : Result T E) → AreOfShape shape old → IsOfShape shape element
     → OnOk result (new ≡ bind old name element) → OnErr result (new ≡ old) → AreOfShape shape new
 still_of_shape shape old new name element (Ok x) h is ok err = subst (AreOfShape shape) (sym ok) (bind_of_shape shape old name element h is)
 still_of_shape shape old new name element (Err e) h is ok err = subst (AreOfShape shape) (sym err) h

@@ -1,9 +1,7 @@
 -- Steps, and what they keep.
-use Rattle.std.proofs.Common.{◌≡◌, ℕ, suc, List, length, Some, refl, sym, ◌∙◌, subst}
+use Rattle.std.proofs.Common.{◌≡◌, ℕ, suc, List, length, Result, Ok, Err, IfOk, OnOk, Some, refl, sym, ◌∙◌, subst}
 use Rattle.ht_word.specs.declared.shape.Shape.{Shape}
 use Rattle.ht_pair.specs.declared.row.Row.{Row}
-use Rattle.ht_pair.specs.Pairs.{IsPair}
-use Rattle.ht_pair.specs.Actions.{IsCanonicalFor}
 use Rattle.ht_text.specs.Fronts.{IsLongestFront}
 use Rattle.ht_script.specs.declared.line.Line.{Line}
 use Rattle.ht_script.specs.declared.line.Line.TheVariants as line
@@ -12,9 +10,11 @@ use Rattle.ht_answer.specs.declared.answer.Answer.{Answer}
 use Rattle.ht_answer.specs.declared.answer.Answer.TheVariants.{Let, Refused}
 use Rattle.ht_answer.specs.declared.answer.Refusal.TheVariants as refusal
 use Rattle.ht_answer.specs.Answers.{IsRefusal}
+use Rattle.ht_script.specs.declared.factor.Factor.{Factor}
 use Rattle.ht_calc.specs.Names.{bind, HasRoom}
+use Rattle.ht_calc.specs.Products.{Term, StandFor, IsLargeProduct}
 use Rattle.ht_calc.specs.States.{State}
-use Rattle.ht_calc.specs.Steps.{Does, Step, blank, group_is_set, group_refused, before_group, reduced, reduce_refused, let_bound, let_no_room, let_refused, shown, show_unbound, compared, first_unbound, second_unbound, no_line}
+use Rattle.ht_calc.specs.Steps.{Does, Step, blank, group_is_set, group_refused, before_group, reduced, reduce_refused, let_bound, let_no_room, let_refused, product_bound, product_unbound, product_no_room, product_wide, product_large, shown, show_unbound, compared, first_unbound, second_unbound, no_line}
 
 -- a line that is refused changes nothing
 pub refused_keeps : (old : State) (line : Line) (answer : Answer) (new : State) → Does old line answer new → IsRefusal answer → new ≡ old
@@ -27,6 +27,11 @@ refused_keeps old _ _ _ (reduce_refused rows shape why some says) is = refl
 refused_keeps old _ _ _ (let_bound name rows canonical shape some room pair canonical_for) is = absurd is
 refused_keeps old _ _ _ (let_no_room name rows some full) is = refl
 refused_keeps old _ _ _ (let_refused name rows shape why some room says) is = refl
+refused_keeps old _ _ _ (product_bound name factors terms product canonical shape some stand room small is_product canonical_for) is = absurd is
+refused_keeps old _ _ _ (product_unbound name missing factors some first) is = refl
+refused_keeps old _ _ _ (product_no_room name factors some are_bound full) is = refl
+refused_keeps old _ _ _ (product_wide name factors some are_bound room wide) is = refl
+refused_keeps old _ _ _ (product_large name factors terms rows letters shape some stand room large) is = refl
 refused_keeps old _ _ _ (shown name rows some found) is = refl
 refused_keeps old _ _ _ (show_unbound name some none) is = refl
 refused_keeps old _ _ _ (compared first second p q shape alike some first_is second_is told) is = absurd is
@@ -38,12 +43,17 @@ pub syntax_refused : (old : State) (bytes : List ℕ) (column said : ℕ) → sa
     → Step old bytes (Refused (refusal.Syntax said)) old
 syntax_refused old bytes column said same told = subst (λ c. Step old bytes (Refused (refusal.Syntax c)) old) (sym (same ∙ told.2)) (no_line told.1 told.0 told.3)
 
--- a name is bound, and the answer has it and the number of rows
-pub name_bound : (old : State) (shape : Shape) (name said : List ℕ) (rows canonical : List Row) (count : ℕ) (names : List (List ℕ × List Row))
-    → old.shape ≡ Some shape → HasRoom old.names name → IsPair shape rows → IsCanonicalFor shape canonical rows
-    → said ≡ name → count ≡ length canonical → names ≡ bind old.names name canonical
-    → Does old (line.LetRows name rows) (Let said count) (record old { names = names })
-name_bound old shape name said rows canonical count names some room pair canonical_for is_name is_count are =
-    subst (λ t. Does old (line.LetRows name rows) (Let t count) (record old { names = names })) (sym is_name)
-    (subst (λ t. Does old (line.LetRows name rows) (Let name t) (record old { names = names })) (sym is_count)
-    (subst (λ t. Does old (line.LetRows name rows) (Let name (length canonical)) (record old { names = t })) (sym are) (let_bound name rows canonical shape some room pair canonical_for)))
+-- a name that is bound to an element, and the answer to it
+pub element_bound : {E : Type 0} (old new : State) (line : Line) (name : List ℕ) (rows : List Row) (result : Result Answer E) → Does old line (Let name (length rows)) (record old { names = bind old.names name rows })
+    → IfOk result (λ answer. answer ≡ Let name (length rows)) → OnOk result (new ≡ record old { names = bind old.names name rows }) → IfOk result (λ answer. Does old line answer new)
+element_bound old new line name rows (Ok answer) does told is = subst (λ (s : State). Does old line answer s) (sym is) (subst (λ (t : Answer). Does old line t (record old { names = bind old.names name rows })) (sym told) does)
+element_bound old new line name rows (Err e) does told is = tt
+
+-- a product is refused with the numbers of its first large element
+pub large_refused : (told old : State) (name : List ℕ) (factors : List Factor) (terms : List Term) (rows letters said_rows said_letters : ℕ) (shape : Shape) → told ≡ old → said_rows ≡ rows → said_letters ≡ letters
+    → told.shape ≡ Some shape → StandFor told.names factors terms → HasRoom told.names name → IsLargeProduct shape terms rows letters
+    → Does old (line.LetProduct name factors) (Refused (refusal.Large said_rows said_letters)) old
+large_refused told old name factors terms rows letters said_rows said_letters shape same same_rows same_letters some stand room large =
+    subst (λ (s : State). Does s (line.LetProduct name factors) (Refused (refusal.Large said_rows said_letters)) s) same
+    (subst (λ i. Does told (line.LetProduct name factors) (Refused (refusal.Large i said_letters)) told) (sym same_rows)
+    (subst (λ j. Does told (line.LetProduct name factors) (Refused (refusal.Large rows j)) told) (sym same_letters) (product_large name factors terms rows letters shape some stand room large)))

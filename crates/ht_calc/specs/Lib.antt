@@ -3,6 +3,8 @@ pub use Rattle.ht_out.specs.Counts
 pub use Rattle.ht_script.specs.Lines
 pub use Rattle.ht_answer.specs.Answers
 pub mod Names
+pub mod Products
+pub mod Terms
 pub mod States
 pub mod Steps
 pub mod Runs

@@ -2,7 +2,8 @@
 -- front.
 --
 --     rows_by_name entries      the names of entries, each with the rows of its element
---     AreOfShape shape entries  the elements of the entries are of the shape; without a shape there are none
+--     IsOfShape shape element   the element is of the shape, and its rows are a pair; without a shape there is none
+--     AreOfShape shape entries  the elements of the entries are so
 --     bound names name          what the first entry of this name has
 --     bind names name what      what a name is bound to, in the place of the name where it is bound, else behind all others
 --     HasRoom names name        the name is bound, or fewer than 256 names are
@@ -11,13 +12,18 @@ use Rattle.std.specs.Cmp.Lexicographic.{pointwise}
 use Rattle.std.specs.Map.{lookup}
 use Rattle.ht_word.specs.declared.shape.Shape.{Shape}
 use Rattle.ht_pair.specs.declared.row.Row.{Row}
+use Rattle.ht_pair.specs.Pairs.{IsPair}
 use Rattle.ht_pair.specs.Elements.{ElementValue}
 
 abbrev pub rows_by_name : List (List ℕ × ElementValue) → List (List ℕ × List Row)
 rows_by_name entries = map (λ entry. (entry.0, entry.1.rows)) entries
 
+pub record IsOfShape (shape : Option Shape) (element : ElementValue) : Type 0 where
+  pub shape_is : Some (element.shape) ≡ shape
+  pub pair : IsPair element.shape element.rows
+
 abbrev pub AreOfShape : Option Shape → List (List ℕ × ElementValue) → Type 0
-AreOfShape shape entries = All (λ entry. Some (entry.1.shape) ≡ shape) entries
+AreOfShape shape entries = All (λ entry. IsOfShape shape entry.1) entries
 
 abbrev pub bound : {T : Type 0} → List (List ℕ × T) → List ℕ → Option T
 bound names name = lookup (pointwise nat_eq name) names

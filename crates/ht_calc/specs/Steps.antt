@@ -1,5 +1,5 @@
 -- One step of the calculator: what a line is answered, and what the session remembers then.
--- Where several refusals fit, the first of this order is given: syntax, group, name, names, rows.
+-- Where several refusals fit, the first of this order is given: syntax, group, name, names, rows, wide, large.
 --
 --     NeedsGroup line                    the line is any but a blank one and `group`
 --     IsRowsRefusal shape rows why       the refusal says why the rows are no element
@@ -15,12 +15,14 @@ use Rattle.ht_pair.specs.RowsFaults.{IsFirstForeign, IsFromFault, IsToFault}
 use Rattle.ht_text.specs.Fronts.{IsLongestFront}
 use Rattle.ht_script.specs.declared.line.Line.{Line}
 use Rattle.ht_script.specs.declared.line.Line.TheVariants as line
+use Rattle.ht_script.specs.declared.factor.Factor.{Factor}
 use Rattle.ht_script.specs.Lines.{IsLine, IsNoLine, IsLineText}
 use Rattle.ht_answer.specs.declared.answer.Answer.{Answer}
 use Rattle.ht_answer.specs.declared.answer.Answer.TheVariants.{Blank, Group, Pair, Let, Equal, Refused}
 use Rattle.ht_answer.specs.declared.answer.Refusal.{Refusal}
 use Rattle.ht_answer.specs.declared.answer.Refusal.TheVariants as refusal
 use Rattle.ht_calc.specs.Names.{bound, bind, HasRoom}
+use Rattle.ht_calc.specs.Products.{Term, StandFor, AreBound, IsFirstUnbound, HasWide, IsProductOf, IsLargeProduct}
 use Rattle.ht_calc.specs.States.{State}
 
 abbrev pub NeedsGroup : Line → Type 0
@@ -28,6 +30,7 @@ NeedsGroup line.Blank = ⊥
 NeedsGroup (line.Group n r) = ⊥
 NeedsGroup (line.Reduce rows) = ⊤
 NeedsGroup (line.LetRows name rows) = ⊤
+NeedsGroup (line.LetProduct name factors) = ⊤
 NeedsGroup (line.Show name) = ⊤
 NeedsGroup (line.Equal first second) = ⊤
 
@@ -39,6 +42,8 @@ IsRowsRefusal shape rows refusal.Names = ⊥
 IsRowsRefusal shape rows (refusal.RowsForeign place) = IsFirstForeign shape rows place
 IsRowsRefusal shape rows refusal.RowsFrom = IsFromFault shape rows
 IsRowsRefusal shape rows refusal.RowsTo = IsToFault shape rows
+IsRowsRefusal shape rows refusal.Wide = ⊥
+IsRowsRefusal shape rows (refusal.Large count letters) = ⊥
 
 pub data Does (old : State) : Line → Answer → State → Type 0 where
   blank : Does old line.Blank Blank old
@@ -52,6 +57,14 @@ pub data Does (old : State) : Line → Answer → State → Type 0 where
   let_no_room : (name : List ℕ) (rows : List Row) → IsSome old.shape → ¬ HasRoom old.names name → Does old (line.LetRows name rows) (Refused refusal.Names) old
   let_refused : (name : List ℕ) (rows : List Row) (shape : Shape) (why : Refusal) → old.shape ≡ Some shape → HasRoom old.names name → IsRowsRefusal shape rows why
       → Does old (line.LetRows name rows) (Refused why) old
+  product_bound : (name : List ℕ) (factors : List Factor) (terms : List Term) (product canonical : List Row) (shape : Shape) → old.shape ≡ Some shape → StandFor old.names factors terms → HasRoom old.names name
+      → ((i j : ℕ) → ¬ IsLargeProduct shape terms i j) → IsProductOf shape terms product → IsCanonicalFor shape canonical product
+      → Does old (line.LetProduct name factors) (Let name (length canonical)) (record old { names = bind old.names name canonical })
+  product_unbound : (name missing : List ℕ) (factors : List Factor) → IsSome old.shape → IsFirstUnbound old.names factors missing → Does old (line.LetProduct name factors) (Refused (refusal.Name missing)) old
+  product_no_room : (name : List ℕ) (factors : List Factor) → IsSome old.shape → AreBound old.names factors → ¬ HasRoom old.names name → Does old (line.LetProduct name factors) (Refused refusal.Names) old
+  product_wide : (name : List ℕ) (factors : List Factor) → IsSome old.shape → AreBound old.names factors → HasRoom old.names name → HasWide factors → Does old (line.LetProduct name factors) (Refused refusal.Wide) old
+  product_large : (name : List ℕ) (factors : List Factor) (terms : List Term) (rows letters : ℕ) (shape : Shape) → old.shape ≡ Some shape → StandFor old.names factors terms → HasRoom old.names name
+      → IsLargeProduct shape terms rows letters → Does old (line.LetProduct name factors) (Refused (refusal.Large rows letters)) old
   shown : (name : List ℕ) (rows : List Row) → IsSome old.shape → bound old.names name ≡ Some rows → Does old (line.Show name) (Pair rows) old
   show_unbound : (name : List ℕ) → IsSome old.shape → bound old.names name ≡ None → Does old (line.Show name) (Refused (refusal.Name name)) old
   compared : (first second : List ℕ) (p q : List Row) (shape : Shape) (alike : Bool) → old.shape ≡ Some shape → bound old.names first ≡ Some p → bound old.names second ≡ Some q → IsTrue alike ↔ Alike shape p q

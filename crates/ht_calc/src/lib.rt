@@ -8,9 +8,11 @@
 //! - `status`: how a run ends
 //! - `session`: what is remembered from line to line
 //! - `bindings`: what is bound to names
+//! - `product`: products of powers of bound elements
 #![tactic(auto)]
 
 mod bindings;
+mod product;
 mod script;
 mod session;
 mod status;

@@ -1,21 +1,24 @@
 //! A session: what is remembered from line to line.
-ghost use Rattle.std.specs.Prelude.{◌≡◌, ◌≢◌, ◌≤◌, All, List, ℕ, length, IfOk, OnErr};
+ghost use Rattle.std.specs.Prelude.{◌≡◌, ◌≢◌, ◌≤◌, All, List, ℕ, Some, length, IfOk, OnOk, OnErr};
 ghost use Rattle.ht_word.specs.declared.shape.Shape.{Shape};
 ghost use Rattle.ht_pair.specs.declared.row.Row.{Row};
 ghost use Rattle.ht_pair.specs.declared.fault.RowsFault.TheVariants.{Large};
+ghost use Rattle.ht_pair.specs.Actions.{IsCanonical};
 ghost use Rattle.ht_pair.specs.RowsFaults.{IsRowsFault};
 ghost use Rattle.ht_text.specs.Texts.{rows_text};
 ghost use Rattle.ht_script.specs.declared.line.Line.TheVariants as line;
 ghost use Rattle.ht_answer.specs.Answers.{IsRefusal, HasAnswerText};
 ghost use Rattle.ht_calc.specs.ShortLines.{HasShortRows};
+ghost use Rattle.ht_calc.specs.Names.{bind};
 ghost use Rattle.ht_calc.specs.States.{start};
 ghost use Rattle.ht_calc.specs.Steps.{IsRowsRefusal, Does, Step};
 
 use crate::bindings::Bindings;
+use crate::product::{first_unbound, has_wide, product_of};
 use ht_answer::{Answer, Refusal};
 use ht_out::Library;
-use ht_pair::{Element, Rows, RowsFault};
-use ht_script::{Line, LineFault, read_line};
+use ht_pair::{Element, OpFault, Rows, RowsFault};
+use ht_script::{Factors, Line, LineFault, read_line};
 use ht_word::{Name, NoMemory, Shape};
 use std::alloc::Global;
 use std::marker::Model;
@@ -80,7 +83,7 @@ impl Session {
 
     // Answers a line of the grammar.
     fn answer_to(&mut self, alloc: Global, line: Line) -> Result<Answer, NoMemory>
-        requires short { HasShortRows line }
+        requires { HasShortRows line }
         ensures step { IfOk result (λ answer. Does self.old line answer self.new) }
         ensures text { IfOk result HasAnswerText }
         ensures err { OnErr result (self.new ≡ self.old) }
@@ -89,7 +92,8 @@ impl Session {
             Line::Blank => Ok(Answer::Blank),
             Line::Group { n, r } => Ok(self.group(n, r)),
             Line::Reduce(rows) => self.reduce(alloc, rows),
-            Line::LetRows { name, rows } => self.bind(alloc, name, rows),
+            Line::LetRows { name, rows } => self.bind_rows(alloc, name, rows),
+            Line::LetProduct { name, factors } => self.bind_product(alloc, name, factors),
             Line::Show(name) => self.show(alloc, name),
             Line::Equal(first, second) => Ok(self.compare(first, second)),
         }
@@ -125,8 +129,7 @@ impl Session {
         }
     }
 
-    // The element is made before the session changes, and bound last.
-    fn bind(&mut self, alloc: Global, name: Name, rows: Rows) -> Result<Answer, NoMemory>
+    fn bind_rows(&mut self, alloc: Global, name: Name, rows: Rows) -> Result<Answer, NoMemory>
         requires short { length (rows_text rows) ≤ 65536 }
         ensures step { IfOk result (λ answer. Does self.old (line.LetRows name rows) answer self.new) }
         ensures text { IfOk result HasAnswerText }
@@ -139,16 +142,64 @@ impl Session {
             return Ok(Answer::Refused(Refusal::Names));
         }
         match Element::of_rows(alloc, shape, rows) {
-            Ok(element) => {
-                let answer = Answer::Let {
-                    name: name.copy(alloc)?,
-                    rows: element.row_count(),
-                };
-                self.names.bind(name, element)?;
-                Ok(answer)
-            }
+            Ok(element) => self.bind_element(alloc, name, element),
             Err(fault) => Ok(Answer::Refused(refusal_of(fault)?)),
         }
+    }
+
+    fn bind_product(
+        &mut self,
+        alloc: Global,
+        name: Name,
+        factors: Factors,
+    ) -> Result<Answer, NoMemory>
+        ensures step { IfOk result (λ answer. Does self.old (line.LetProduct name factors) answer self.new) }
+        ensures text { IfOk result HasAnswerText }
+        ensures err { OnErr result (self.new ≡ self.old) }
+    {
+        let Some(shape) = self.shape else {
+            return Ok(Answer::Refused(Refusal::Group));
+        };
+        let factors = factors.as_slice();
+        if let Some(missing) = first_unbound(&self.names, factors) {
+            return Ok(Answer::Refused(Refusal::Name(missing.copy(alloc)?)));
+        }
+        if !self.names.has_room(&name) {
+            return Ok(Answer::Refused(Refusal::Names));
+        }
+        if has_wide(factors) {
+            return Ok(Answer::Refused(Refusal::Wide));
+        }
+        match product_of(alloc, shape, &self.names, factors) {
+            Ok(element) => self.bind_element(alloc, name, element),
+            Err(OpFault::Large { rows, letters }) => {
+                Ok(Answer::Refused(Refusal::Large { rows, letters }))
+            }
+            Err(OpFault::NoMemory) => Err(NoMemory),
+        }
+    }
+
+    // The element is made before the session changes, and bound last.
+    fn bind_element(
+        &mut self,
+        alloc: Global,
+        name: Name,
+        element: Element,
+    ) -> Result<Answer, NoMemory>
+        requires of_shape { self.old.shape ≡ Some (element.shape) }
+        ensures canonical { IsCanonical element.shape element.rows }
+        ensures answer { IfOk result (λ answer. answer ≡ Answer.Let name (length element.rows)) }
+        ensures text { IfOk result HasAnswerText }
+        ensures bound { OnOk result (self.new ≡ record self.old { names = bind self.old.names name element.rows }) }
+        ensures err { OnErr result (self.new ≡ self.old) }
+    {
+        let rows = element.row_count();
+        let answer = Answer::Let {
+            name: name.copy(alloc)?,
+            rows,
+        };
+        self.names.bind(name, element)?;
+        Ok(answer)
     }
 
     fn show(&self, alloc: Global, name: Name) -> Result<Answer, NoMemory>

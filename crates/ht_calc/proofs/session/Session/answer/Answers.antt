@@ -24,4 +24,4 @@ returns-in-Err-Syntax-clause-step g c =
     (c.in-Err-Syntax.ensures.syntax c.in-Err-Syntax.column (search rules))
 
 pub answer_to-requires : goal.answer_to-requires
-answer_to-requires g c = record { short = short_rows c.args.line.now c.in-Ok.line c.in-Ok.ensures.line c.requires.length }
+answer_to-requires g c = short_rows c.args.line.now c.in-Ok.line c.in-Ok.ensures.line c.requires.length
