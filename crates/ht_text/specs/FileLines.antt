@@ -10,7 +10,9 @@
 --     IsCountFront bytes k rest    the bytes are a third line and rest
 --     IsHead bytes n r k rest      the bytes are three lines of a file and rest
 --     IsRowFront bytes row rest    the bytes are the line of a row and rest
---     IsEnding rest ending         rest is the end of a file; or it begins with no whole last line and isn't one; or more stands behind that line
+--     IsNoEnd rest                 rest doesn't begin with a whole last line, and isn't one without its line feed
+--     HasBehindEnd rest            rest is a whole last line and some bytes behind it
+--     IsEnding rest ending         rest is the end of a file, no end, or an end with more behind it
 --     LeadsNoFurther bytes k       the bytes are no file, and k is the greatest number of leading whole lines that lead some file
 --     IsLinesFault bytes fault     what a fault says of the bytes, whatever their number; want of memory says nothing
 use Rattle.std.specs.Prelude.{◌≡◌, ◌≢◌, ℕ, zero, suc, ◌<◌, ◌≤◌, ◌^◌, ◌⊎◌, List, [], ◌∷◌, ◌++◌, ⊤, length, codes, decimal, map}
