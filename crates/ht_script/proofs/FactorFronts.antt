@@ -1,7 +1,7 @@
 -- The longest fronts of factors.
 use Rattle.std.proofs.Common.{◌≡◌, ◌≢◌, ◌<◌, ◌≤◌, ◌+◌, ℕ, zero, suc, ◌⊎◌, inl, inr, List, [], ◌∷◌, ◌++◌, length, take, refl, sym, ap, ◌∙◌, subst, arith, append_assoc, length-append}
 use Rattle.std.specs.List.{AllByRecursion}
-use Rattle.std.proofs.lemmas.List.{take_at, length-take-le}
+use Rattle.std.proofs.lemmas.List.{length-take-le}
 use Rattle.std.proofs.lemmas.List.Elements.{All-nil, All-cons, All-take, recursion_from_All}
 use Rattle.ht_text.specs.Fronts.{IsFront, IsLongestFront}
 use Rattle.ht_text.proofs.Cuts.{IsFree}
@@ -10,7 +10,7 @@ use Rattle.ht_script.specs.Tokens.{IsSpaces, IsSpaced, IsFirstToken}
 use Rattle.ht_script.specs.Names.{IsName}
 use Rattle.ht_script.specs.Factors.{IsFactor, IsFactorText, AreListed, AreFactorsText}
 use Rattle.ht_script.specs.Exponents.{IsExponentText}
-use Rattle.ht_script.proofs.TokenLaws.{AreTokens, refit, spaced_before}
+use Rattle.ht_script.proofs.TokenLaws.{spaces_left, AreTokens, refit, spaced_before}
 use Rattle.ht_script.proofs.FrontLaws.{front_map, moved, longest_behind, longest_stops, longest_same, longest_alike}
 use Rattle.ht_script.proofs.SpacedFronts.{Fits, TakesSpace, spaces_front, longest_spaces, longest_in_token, longest_past_token}
 use Rattle.ht_script.proofs.NameLaws.{name_a}
@@ -105,9 +105,6 @@ spaced_factors bytes s =
 
 factor_a : Fits FactorFits (97 ∷ [])
 factor_a = ([], (name_factor (97 ∷ []) name_a, ([], All-nil (λ b. b ≡ 32))))
-
-spaces_left : (a r : List ℕ) → IsSpaces (a ++ r) → IsSpaces a
-spaces_left a r h = subst IsSpaces (take_at a r (length a) refl) (All-take (λ b. b ≡ 32) (length a) (a ++ r) h)
 
 -- fronts of factors, none or more, are fronts of at least one
 front_of_listed : (t : List ℕ) → IsFront AreListedText t → IsFront AreFactorsText t

@@ -3,8 +3,8 @@ use Rattle.std.proofs.Common.{◌≡◌, ◌≢◌, ◌<◌, ◌≤◌, ◌+◌,
 use Rattle.std.specs.Prelude.{codes}
 use Rattle.std.specs.List.{AllByRecursion}
 use Rattle.std.proofs.lemmas.Bool.{cases_lt}
-use Rattle.std.proofs.lemmas.List.{drop_more, take_all, take_at, nil_from_length, length-take-le}
-use Rattle.std.proofs.lemmas.List.Elements.{recursion_from_All, All-from_recursion, All-take}
+use Rattle.std.proofs.lemmas.List.{drop_more, take_all, nil_from_length, length-take-le}
+use Rattle.std.proofs.lemmas.List.Elements.{recursion_from_All, All-from_recursion}
 use Rattle.ht_pair.specs.declared.row.Row.{Row}
 use Rattle.ht_text.specs.Fronts.{IsFront, IsLongestFront, IsRowsText}
 use Rattle.ht_script.specs.declared.command.Command.{Command}
@@ -17,7 +17,7 @@ use Rattle.ht_script.specs.Lines.{IsMarked, IsComment, IsNumber, AreRows, IsName
 use Rattle.ht_script.specs.Slots.{keyword, slots_of, ending_of, IsEnding, IsTaken, Completes, Reads, IsKeyword, IsUnmarked}
 use Rattle.ht_script.specs.Names.{IsName}
 use Rattle.ht_script.specs.Factors.{AreFactors}
-use Rattle.ht_script.proofs.TokenLaws.{AreTokens, BeginsToken, begins, strip, not_spaces, refit, first_fits, both}
+use Rattle.ht_script.proofs.TokenLaws.{spaces_left, AreTokens, BeginsToken, begins, strip, not_spaces, refit, first_fits, both}
 use Rattle.ht_script.proofs.GrammarLaws.{name_token, equals_token}
 use Rattle.ht_script.proofs.FrontLaws.{front_map, moved, longest_whole, longest_behind, longest_span, longest_same}
 use Rattle.ht_script.proofs.SpacedFronts.{Fits, TakesSpace, spaces_front, longest_in_token, longest_past_token}
@@ -245,9 +245,6 @@ mark_within (z ∷ a) r (y ∷ b) t h e =
       | inl spaces ↦ inl (head ∙ h.0, spaces)
       | inr found ↦ inr (found.0, (let rest = found.1 in cc))
     ]
-
-spaces_left : (a r : List ℕ) → IsSpaces (a ++ r) → IsSpaces a
-spaces_left a r h = subst IsSpaces (take_at a r (length a) refl) (All-take (λ b. b ≡ 32) (length a) (a ++ r) h)
 
 -- a front of some line is one of a command, where no comment begins
 command_front : (a d : List ℕ) → IsUnmarked (a ++ d) → IsFront IsLineText a → IsFront IsCommandText a

@@ -1,7 +1,8 @@
 -- The first token of bytes is the only one that they can have.
-use Rattle.std.proofs.Common.{◌≡◌, ◌≢◌, ◌<◌, ℕ, List, [], ◌∷◌, ◌++◌, take, refl, sym, ap, ◌∙◌, subst, subst₂, arith, Result, Ok, Err, Option, Some, None, IfOk, MatchOption}
+use Rattle.std.proofs.Common.{◌≡◌, ◌≢◌, ◌<◌, ℕ, List, [], ◌∷◌, ◌++◌, length, take, refl, sym, ap, ◌∙◌, subst, subst₂, arith, Result, Ok, Err, Option, Some, None, IfOk, MatchOption}
 use Rattle.std.specs.List.{AllByRecursion}
-use Rattle.std.proofs.lemmas.List.Elements.{All-nil, All-cons, recursion_from_All}
+use Rattle.std.proofs.lemmas.List.Elements.{All-nil, All-cons, All-take, recursion_from_All}
+use Rattle.std.proofs.lemmas.List.{take_at}
 use Rattle.ht_script.specs.Tokens.{◌▸◌, Is, IsSpaces, IsToken, IsApart, IsSpaced, IsFirstToken}
 
 -- the first byte is there and isn't a space
@@ -43,6 +44,10 @@ end_of_spaces (z ∷ a) x h f = end_of_spaces a x h.1 f
 -- spaces have no other byte
 pub not_spaces : (bytes a x : List ℕ) → IsSpaces bytes → bytes ≡ a ++ x → BeginsToken x → ⊥
 not_spaces bytes a x h e f = end_of_spaces a x (recursion_from_All (λ b. b ≡ 32) (a ++ x) (subst IsSpaces e h)) f
+
+-- the first of spaces are spaces
+pub spaces_left : (a r : List ℕ) → IsSpaces (a ++ r) → IsSpaces a
+spaces_left a r h = subst IsSpaces (take_at a r (length a) refl) (All-take (λ b. b ≡ 32) (length a) (a ++ r) h)
 
 -- the token u goes on behind t, which has c behind it where u has y
 pub record GoesOn (t c u y : List ℕ) : Type 0 where

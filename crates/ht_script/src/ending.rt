@@ -1,14 +1,13 @@
 //! How lines end behind their slots.
-ghost use Rattle.ht_text.specs.Fronts.{IsLongestFront};
+ghost use Rattle.ht_text.specs.Fronts.{IsRowsText, IsLongestFront};
 ghost use Rattle.ht_script.specs.Tokens.{◌▸◌, IsSpaces};
-ghost use Rattle.ht_text.specs.Fronts.{IsRowsText};
 ghost use Rattle.ht_script.specs.Slots.{IsEnding};
 
 use crate::factor::factors_front;
 use crate::token::{count_spaces, first_token};
 use ht_text::{is_rows, rows_front};
 
-/// What stands behind the last slot.
+/// What stands behind the last slot: spaces alone, rows, or rows or factors.
 #[derive(Clone, Copy, Debug, PartialEq, Eq)]
 pub(crate) enum Ending {
     Spaces,
@@ -17,8 +16,8 @@ pub(crate) enum Ending {
 }
 
 impl Ending {
-    // The length of the longest front of the bytes that some bytes of the ending have. Seven passes
-    // over them at most.
+    // The length of the longest front of the bytes that some bytes of the ending have. At most eight
+    // passes over them.
     pub(crate) fn front(self, bytes: &[u8]) -> usize
         ensures { IsLongestFront (IsEnding self) bytes.now result }
     {
@@ -30,7 +29,7 @@ impl Ending {
     }
 }
 
-// The length of the longest front of the bytes that rows or factors have. Seven passes over them.
+// The length of the longest front of the bytes that rows or factors have. Eight passes over them.
 fn value_front(bytes: &[u8]) -> usize
     ensures { IsLongestFront (IsEnding Ending.Value) bytes.now result }
 {

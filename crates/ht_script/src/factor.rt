@@ -31,7 +31,7 @@ pub struct Factor {
 /// The factors of a product, from left to right.
 pub type Factors = List<Factor>;
 
-// The factors that the bytes are. Six passes over them.
+// The factors that the bytes are. Four passes over them.
 pub(crate) fn read_factors(alloc: Global, bytes: &[u8]) -> Result<Option<Factors>, NoMemory>
     ensures { IfOk result (λ found. MatchOption found
         ((factors : List Factor) → ¬ AreFactors factors bytes.now) (λ factors. AreFactors factors bytes.now)) }
@@ -51,7 +51,7 @@ pub(crate) fn read_factors(alloc: Global, bytes: &[u8]) -> Result<Option<Factors
     Ok(Some(factors))
 }
 
-// The factor that the token is. Four passes over it.
+// The factor that the token is. Three passes over it.
 fn read_factor(alloc: Global, token: &[u8]) -> Result<Option<Factor>, NoMemory>
     ensures { IfOk result (λ found. MatchOption found
         ((factor : Factor) → ¬ IsFactor factor token.now) (λ factor. IsFactor factor token.now)) }

@@ -7,7 +7,7 @@ use crate::command::{Command, Slot, keyword_front};
 use crate::ending::Ending;
 use crate::token::{behind_mark, count_before, first_token};
 
-// The length of the longest front of the bytes that some line has. At most six passes over them.
+// The length of the longest front of the bytes that some line has. At most ten passes over them.
 pub(crate) fn line_front(line: &[u8]) -> usize
     ensures { IsLongestFront IsLineText line.now result }
 {
@@ -36,7 +36,7 @@ fn command_front(line: &[u8]) -> usize
 }
 
 // The length of the longest front of the bytes that tokens for the slots and the ending behind them
-// have. At most four passes over each token and seven over the ending.
+// have. At most five passes over each token and eight over the ending.
 fn slots_front(slots: &[Slot], ending: Ending, bytes: &[u8]) -> usize
     ensures { IsLongestFront (IsBehind ending slots.now) bytes.now result }
 {

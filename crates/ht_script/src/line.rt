@@ -23,7 +23,7 @@ pub enum Line {
     Reduce(Rows),
     /// `let`, a name, `=` and rows.
     LetRows { name: Name, rows: Rows },
-    /// `let`, a name, `=` and factors, at least one.
+    /// `let`, a name, `=` and factors, at least one, in their order.
     LetProduct { name: Name, factors: Factors },
     /// `show` and a name.
     Show(Name),
@@ -52,7 +52,7 @@ impl From<NoMemory> for LineFault {
 }
 
 /// The line that the bytes are the text of. Any bytes are taken. Linear in the bytes: at most
-/// twelve passes over them; the memory is that of the rows and the names.
+/// twenty-four passes over them; the memory is that of the rows, the names and the factors.
 pub fn read_line(alloc: Global, line: &[u8]) -> Result<Line, LineFault>
     ensures line { IfOk result (IsLine line.now) }
     ensures syntax { (column : ℕ) → IsErrOf result (LineFault.Syntax column)

@@ -15,7 +15,7 @@ use ht_text::{read_num, read_rows};
 use ht_word::{Name, NoMemory};
 use std::alloc::Global;
 
-// The line that the bytes are the text of. At most six passes over them.
+// The line that the bytes are the text of. At most twelve passes over them.
 pub(crate) fn read_value(alloc: Global, line: &[u8]) -> Result<Option<Line>, NoMemory>
     ensures { IfOk result (λ found. MatchOption found (IsNoLine line.now) (IsLine line.now)) }
 {
@@ -75,7 +75,7 @@ fn read_reduce(alloc: Global, bytes: &[u8]) -> Result<Option<Line>, NoMemory>
     Ok(Some(Line::Reduce(rows)))
 }
 
-// The line of `let` and the bytes behind it. Twelve passes over them.
+// The line of `let` and the bytes behind it. At most ten passes over them.
 fn read_let(alloc: Global, bytes: &[u8]) -> Result<Option<Line>, NoMemory>
     ensures { IfOk result (Reads Command.Let bytes.now) }
 {
