@@ -40,7 +40,7 @@ identity_moves shape u v h =
     h.from ∙ ap (λ (t : Word). t · h.rest) (ap (λ (t : Row). t.from) (sym g.2) ∙ ap (λ (t : Row). t.to) g.2) ∙ sym h.to
 
 -- the roots are in ascending order
-roots_ascending : (k : ℕ) → IsAscending (roots_to k)
+pub roots_ascending : (k : ℕ) → IsAscending (roots_to k)
 roots_ascending zero = AllPairs-nil (λ u v. word_cmp u v ≡ Less)
 roots_ascending (suc k) = AllPairs-append (λ u v. word_cmp u v ≡ Less) (roots_to k) (root_word (suc k) ∷ []) (roots_ascending k)
     (AllPairs-cons (λ u v. word_cmp u v ≡ Less) (root_word (suc k)) [] (λ i d l. absurd (omega arith)) (AllPairs-nil (λ u v. word_cmp u v ≡ Less)))

@@ -46,4 +46,5 @@ pub mod TogetherLaws
 pub mod AtomLaws
 pub mod LocalConjugacyLaws
 pub mod PowerRuleLaws
+pub mod HeldBasisLaws
 pub mod RowSearch

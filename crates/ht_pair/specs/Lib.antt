@@ -9,6 +9,7 @@ pub mod Tilings
 pub mod Merges
 pub mod Tables
 pub mod Elements
+pub mod HeldBases
 pub mod RowsFaults
 pub mod Sizes
 pub mod Steps

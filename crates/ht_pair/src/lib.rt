@@ -5,17 +5,21 @@
 //!
 //! - `row`: rows and lists of rows
 //! - `element`: elements, made from rows
+//! - `basis`: bases in ascending order
 //! - `fault`: why rows are no element, and why elements have no product
 //! - `reduce`: the reduced rows of a pair, and of a table
 //! - `moves`: how rows move words
+//! - `headed`: the search for the word or row above a word
 //! - `pair`: the test whether rows are a pair
 //! - `tiling`: the test whether sorted words are a basis
 //! - `side`: the `from` words or the `to` words of rows, and sorting by them
 //! - `laws`: the laws that show the definitions right
 #![tactic(auto)]
 
+mod basis;
 mod element;
 mod fault;
+mod headed;
 pub mod laws;
 mod moves;
 mod pair;
@@ -24,6 +28,7 @@ mod row;
 mod side;
 mod tiling;
 
+pub use basis::Basis;
 pub use element::Element;
 pub use fault::{OpFault, RowsFault};
 pub use reduce::{merge_table, reduce_rows};

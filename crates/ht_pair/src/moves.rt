@@ -9,6 +9,7 @@ ghost use Rattle.ht_pair.specs.Bases.{IsPrefixFree};
 ghost use Rattle.ht_pair.specs.Pairs.{from_words, identity};
 ghost use Rattle.ht_pair.specs.Actions.{Moves};
 
+use crate::headed::place_above;
 use crate::{Row, Rows};
 use ht_word::{NoMemory, Shape, Word};
 use std::alloc::Global;
@@ -41,35 +42,14 @@ pub(crate) fn are_same_rows(rows: &[Row], other: &[Row]) -> bool
     true
 }
 
-// How many rows, the first ones, have a `from` word that isn't after the word. O(log N) comparisons
+// The place, from 0, of the row whose `from` word is a prefix of the word. O(log N) comparisons
 // of words.
-fn count_until(rows: &[Row], word: &Word) -> usize
-    requires { IsAscending (from_words rows.now) }
-    ensures bound { result ≤ length rows.now }
-    ensures point { IsPartitionPoint (λ (row : Row). is_le (word_cmp row.from word.now) ≡ true) (λ (row : Row). is_le (word_cmp row.from word.now) ≡ false) rows.now result }
-{
-    rows.partition_point(
-        |row: &Row| -> bool
-            ensures { result ≡ is_le (word_cmp row.now.from word.entry.now) }
-        { row.from.order(word).is_le() },
-    )
-}
-
-// The place, from 0, of the row whose `from` word is a prefix of the word. Of the `from` words that
-// aren't after the word, only the last can be one. O(log N) comparisons of words.
 pub(crate) fn place_of(rows: &[Row], word: &Word) -> Option<usize>
     requires prefix_free { IsPrefixFree (from_words rows.now) }
     requires ascending { IsAscending (from_words rows.now) }
     ensures { MatchOption result ((v : Word) → ¬ Moves rows.now word.now v) (λ place. (row : Row) × (slice_get rows.now place ≡ Some row) × IsUnder word.now row.from) }
 {
-    let until = count_until(rows, word);
-    if until == 0 {
-        return None;
-    }
-    if !rows[until - 1].from.is_prefix_of(word) {
-        return None;
-    }
-    Some(until - 1)
+    place_above(rows, word)
 }
 
 // The word that the row carries the word to: the row's `to` word with the letters that are left.
