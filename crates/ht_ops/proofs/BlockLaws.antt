@@ -1,31 +1,28 @@
 -- The blocks of a product, and the pair that they make together.
-use Rattle.std.proofs.Common.{◌≡◌, ℕ, suc, ◌<◌, ◌+◌, drop-cons, add-one, inl, inr, List, [], ◌∷◌, ◌++◌, length, map, drop, refl, sym, ap, ◌∙◌, subst, subst₂, arith, All, AllPairs, Contains, append_assoc, append-nil, get_or, slice_get, Some}
-use Rattle.std.specs.Result.{IfOk, OnOk}
-use Rattle.std.specs.declared.result.Result.{Result}
-use Rattle.std.specs.declared.result.Result.TheVariants.{Ok, Err}
+use Rattle.std.proofs.Common.{◌≡◌, ℕ, suc, ◌<◌, ◌+◌, drop-cons, add-one, inl, inr, List, [], ◌∷◌, ◌++◌, length, map, drop, refl, sym, ap, ◌∙◌, subst, subst₂, arith, All, AllPairs, Contains, ◌↔◌, append_assoc, append-nil, get_or, slice_get, Some}
 use Rattle.std.proofs.lemmas.List.{nil_from_length}
 use Rattle.std.proofs.lemmas.Option.{slice_get_within}
 use Rattle.std.proofs.lemmas.List.Elements.{All-contains, All-nil, Contains-append_left, Contains-append_right, Contains-append_cases}
 use Rattle.ht_word.specs.declared.word.Word.{Word}
 use Rattle.ht_word.specs.declared.shape.Shape.{Shape}
-use Rattle.ht_word.specs.Words.{◌·◌, IsLetter, IsWordOf, IsUnder, IsUnderSome}
+use Rattle.ht_word.specs.Words.{◌·◌, IsLetter, IsWordOf, IsUnder, IsUnderSome, IsAscending}
 use Rattle.ht_word.proofs.WordLaws.{after-append, after-nil, after_cancel, under_after, under_both, word_after, word_rest, All-from_contains}
 use Rattle.ht_word.proofs.ListLaws.{Contains-nil, Contains-here, Contains-cons_cases, Contains-map, contained_in_map, AllPairs-nil, AllPairs-cons, AllPairs-append, AllPairs-left, AllPairs-right, AllPairs-across, AllPairs-map, AllPairs-from_map, AllPairs-weaker}
 use Rattle.ht_pair.specs.declared.row.Row.{Row}
 use Rattle.ht_pair.specs.Bases.{AreApart, IsPrefixFree, longest, IsBasis}
-use Rattle.ht_pair.specs.Pairs.{IsPair, from_words, to_words}
-use Rattle.ht_pair.specs.Actions.{Moves, IsCanonical}
+use Rattle.ht_pair.specs.Pairs.{IsPair, from_words}
+use Rattle.ht_pair.specs.Actions.{Moves}
 use Rattle.ht_pair.specs.Tables.{IsTable}
 use Rattle.ht_pair.specs.Products.{IsProduct}
 use Rattle.ht_pair.proofs.Canonical.{ordered_table}
 use Rattle.ht_pair.proofs.ConeOrder.{IsBefore, before_extended, before_behind, all_before, before_free, before_ascending}
 use Rattle.ht_pair.proofs.BasisLaws.{some_at, basis_holds, basis_word, basis_from}
-use Rattle.ht_pair.proofs.MovesLaws.{moves_map}
+use Rattle.ht_pair.proofs.MovesLaws.{moves_map, moves_single}
 use Rattle.ht_pair.proofs.PrefixMapLaws.{Then, then_map, IsPrefixMap, RowsOf, length-carried, rows_basis, rows_move}
 use Rattle.ht_pair.proofs.ProductLaws.{product_of}
 use Rattle.ht_pair.proofs.RowSearch.{letters_behind}
 use Rattle.ht_ops.proofs.RunLaws.{read_same}
-use Rattle.ht_ops.specs.Blocks.{IsPartOf, IsBlock, HasBlock, AreBlocks, IsRun, moved_by, carried_by}
+use Rattle.ht_ops.specs.Blocks.{IsPartOf, IsBlock, HasBlock, AreBlocks, IsFullProduct, IsRun, moved_by, carried_by}
 
 -- the cone of the first row's `from` word is before that of the second's
 abbrev IsRowBefore : Row → Row → Type 0
@@ -101,27 +98,26 @@ run_covers q row run r none z s =
     ]
 
 -- the rows below what the row gives, where no row is above it
-pub run_block : (shape : Shape) (q : List Row) (row : Row) (run : List Row) → IsCanonical shape q → IsRun q row.to run → ((v : Word) → ¬ Moves q row.to v) → IsBlock shape q row (map (carried_by row) run)
-run_block shape q row run canonical r none = record {
+pub run_block : (shape : Shape) (q : List Row) (row : Row) (run : List Row) → IsBasis shape (from_words q) → IsAscending (from_words q) → IsRun q row.to run → ((v : Word) → ¬ Moves q row.to v) → IsBlock shape q row (map (carried_by row) run)
+run_block shape q row run basis ascending r none = record {
   parts = λ x c.
       let g = contained_in_map (carried_by row) run x c in
       let listed = run_listed q row.to run r g.0 g.1 in
-      subst (IsPartOf shape q row) g.2 (run_part shape q row g.0 listed (basis_word shape (from_words q) canonical.pair.from g.0.from (Contains-map (λ (t : Row). t.from) q g.0 listed)) (r.under g.0 g.1));
+      subst (IsPartOf shape q row) g.2 (run_part shape q row g.0 listed (basis_word shape (from_words q) basis g.0.from (Contains-map (λ (t : Row). t.from) q g.0 listed)) (r.under g.0 g.1));
   prefix_free = before_free (from_words (map (carried_by row) run)) before;
   ascending = before_ascending (from_words (map (carried_by row) run)) before;
   covered = run_covers q row run r none;
 }
   where
     before : AllPairs IsBefore (from_words (map (carried_by row) run))
-    before = run_before q row run (all_before (from_words q) canonical.pair.from.prefix_free canonical.ascending) r
+    before = run_before q row run (all_before (from_words q) basis.prefix_free ascending) r
 
 -- the block of one row is added
-pub moved_added : (shape : Shape) (q given : List Row) (row other x : Row) (place : ℕ) (old new : List Row) → q ≡ given → other ≡ get_or q place other
-    → ((r : Row) × (slice_get given place ≡ Some r) × IsUnder row.to r.from) → x ≡ moved_by row other → new ≡ old ++ x ∷ [] → HasBlock shape q row old new
-moved_added shape q given row other x place old new same is found x_is new_is =
-    let read : slice_get q place ≡ Some found.0 = subst (λ (t : List Row). slice_get t place ≡ Some found.0) (sym same) found.1 in
-    let inside = slice_get_within q place found.0 read in
-    let one : found.0 ≡ other = read_same q place other found.0 inside is read in
+pub moved_added : (shape : Shape) (q : List Row) (row other x : Row) (place : ℕ) (old new : List Row) → other ≡ get_or q place other
+    → ((r : Row) × (slice_get q place ≡ Some r) × IsUnder row.to r.from) → x ≡ moved_by row other → new ≡ old ++ x ∷ [] → HasBlock shape q row old new
+moved_added shape q row other x place old new is found x_is new_is =
+    let inside = slice_get_within q place found.0 found.1 in
+    let one : found.0 ≡ other = read_same q place other found.0 inside is found.1 in
     record {
       block = moved_by row other ∷ [];
       is_block = moved_block shape q row other (place, inside, sym is) (subst (λ (t : Row). IsUnder row.to t.from) one found.2);
@@ -129,13 +125,9 @@ moved_added shape q given row other x place old new same is found x_is new_is =
     }
 
 -- the block of a run is added
-pub run_added : (shape : Shape) (q given : List Row) (row : Row) (run old new : List Row) → q ≡ given → IsCanonical shape q → IsRun q row.to run → ((v : Word) → ¬ Moves given row.to v)
+pub run_added : (shape : Shape) (q : List Row) (row : Row) (run old new : List Row) → IsBasis shape (from_words q) → IsAscending (from_words q) → IsRun q row.to run → ((v : Word) → ¬ Moves q row.to v)
     → new ≡ old ++ map (carried_by row) run → HasBlock shape q row old new
-run_added shape q given row run old new same canonical r none is = record {
-  block = map (carried_by row) run;
-  is_block = run_block shape q row run canonical r (λ v m. none v (subst (λ (t : List Row). Moves t row.to v) same m));
-  added = is;
-}
+run_added shape q row run old new basis ascending r none is = record { block = map (carried_by row) run; is_block = run_block shape q row run basis ascending r none; added = is }
 
 -- ---- all blocks
 
@@ -222,11 +214,6 @@ all_blocks shape p q rows items none h =
 pub next_row : (rows : List Row) (place : ℕ) (row : Row) → place < length rows → row ≡ get_or rows place row → drop place rows ≡ row ∷ drop (place + 1) rows
 next_row rows place row l is = drop-cons rows place row l ∙ ap (λ (t : Row). t ∷ drop (suc place) rows) (sym is) ∙ ap (λ k. row ∷ drop k rows) (sym (add-one place))
 
--- the `to` word of the next row is of the shape
-pub next_word : (shape : Shape) (p q rows rest : List Row) (row : Row) → All (IsWordOf shape) (to_words p) → AreBlocksUpTo shape p q rows (row ∷ rest) → IsWordOf shape row.to
-next_word shape p q rows rest row words h =
-    All-contains (IsWordOf shape) (to_words p) row.to words (Contains-map (λ (t : Row). t.to) p row (subst (λ (t : List Row). Contains t row) (sym h.are) (Contains-append_right h.done (row ∷ rest) row (Contains-here row rest))))
-
 -- ---- the product
 
 -- the rows of the blocks move words as p and then q do
@@ -275,8 +262,33 @@ blocks_product shape p q rows pair_p pair_q h =
       by = rows_move shape F m.ahead (from_words rows) r;
     })
 
--- and so where both are answered
-pub product_answered : {E : Type 0} (shape given_shape : Shape) (p given q : List Row) (r : Result (List Row) E) → shape ≡ given_shape → given ≡ p → IsPair shape p → IfOk r (AreBlocks given_shape q given) → OnOk r (IsPair given_shape q) → IfOk r (IsProduct shape p q)
-product_answered shape given_shape p given q (Ok rows) shapes is pair_p h pair_q =
-    blocks_product shape p q rows pair_p (subst (λ (s : Shape). IsPair s q) (sym shapes) pair_q) (subst₂ (λ (s : Shape) (t : List Row). AreBlocks s q t rows) (sym shapes) is h)
-product_answered shape given_shape p given q (Err e) shapes is pair_p h pair_q = tt
+-- the blocks move what p moves to a word that q moves
+blocks_move : (shape : Shape) (p q rows : List Row) → IsPair shape p → IsPair shape q → AreBlocks shape q p rows → (u w : Word) → Moves rows u w ↔ ((v : Word) × Moves p u v × Moves q v w)
+unfolding rows_then
+blocks_move shape p q rows pair_p pair_q h u w = (there u w, back)
+  where
+    there : (u w : Word) → Moves rows u w → (v : Word) × Moves p u v × Moves q v w
+    there u w m =
+        let F = Then (Moves p) (Moves q) in
+        let t = rows_move shape F (then_map shape (Moves p) (Moves q) (moves_map shape p pair_p) (moves_map shape q pair_q)).ahead (from_words rows) (rows_then shape p q rows h) u w m in
+        (t.middle, t.first, t.second)
+
+    back : (v : Word) × Moves p u v × Moves q v w → Moves rows u w
+    back t =
+        let first = t.1 in
+        let second = t.2 in
+        let some : IsUnderSome (first.row.to · first.rest) (from_words q) = subst (λ x. IsUnderSome x (from_words q)) first.to (some_at (from_words q) second.row.from t.0 (Contains-map (λ (r : Row). r.from) q second.row second.listed) (record { rest = second.rest; is = second.from })) in
+        let s = subst (λ x. IsUnderSome x (from_words rows)) (sym first.from) (h.covered first.row first.listed first.rest some) in
+        let g = contained_in_map (λ (r : Row). r.from) rows s.above s.listed in
+        let moved : Moves rows u (g.0.to · s.under.rest) = record { row = g.0; rest = s.under.rest; listed = g.1; from = s.under.is ∙ ap (λ x. x · s.under.rest) (sym g.2); to = refl } in
+        let by = there u (g.0.to · s.under.rest) moved in
+        let middle : by.0 ≡ t.0 = moves_single p pair_p.from.prefix_free u by.0 t.0 by.1 first in
+        subst (Moves rows u) (moves_single q pair_q.from.prefix_free t.0 (g.0.to · s.under.rest) w (subst (λ x. Moves q x (g.0.to · s.under.rest)) middle by.2) second) moved
+
+-- so they are the product that moves all that it can
+pub blocks_full : (shape : Shape) (p q rows : List Row) → IsPair shape p → IsPair shape q → AreBlocks shape q p rows → IsFullProduct shape p q rows
+blocks_full shape p q rows pair_p pair_q h = record {
+  product = blocks_product shape p q rows pair_p pair_q h;
+  moves = blocks_move shape p q rows pair_p pair_q h;
+  ascending = h.ascending;
+}

@@ -5,11 +5,13 @@
 --     HasBlock shape q row old new    a block is added behind rows
 --     IsPartOfSome shape q p x     x moves words as some row of p and then q do
 --     AreBlocks shape q p rows     the blocks of the rows of p, in order
+--     IsFullProduct shape p q s    the product of p and q that moves each word that p moves to a word that q moves, and no
+--                                  other word; its rows are in ascending order
 --     IsRun p w run                the rows whose `from` words are under w, which stand together
 --     IsPairFault fault            what may be wrong with rows that are a pair: they are too large, or memory is wanting
 --     moved_by row other           the row, where the `from` word of the other is a prefix of its `to` word, and then the other
 --     carried_by row other         the row, where its `to` word is a prefix of the `from` word of the other, and then the other
-use Rattle.std.specs.Prelude.{◌≡◌, ⊤, List, ◌++◌, ℕ, length, drop, Contains}
+use Rattle.std.specs.Prelude.{◌≡◌, ◌↔◌, ⊤, List, ◌++◌, ℕ, length, drop, Contains}
 use Rattle.ht_word.specs.declared.word.Word.{Word}
 use Rattle.ht_word.specs.declared.shape.Shape.{Shape}
 use Rattle.ht_word.specs.Words.{◌·◌, IsLetters, IsUnder, IsUnderSome, IsAscending}
@@ -19,6 +21,7 @@ use Rattle.ht_pair.specs.declared.fault.RowsFault.TheVariants.{Foreign, FromNotB
 use Rattle.ht_pair.specs.Actions.{Moves}
 use Rattle.ht_pair.specs.Bases.{IsPrefixFree}
 use Rattle.ht_pair.specs.Pairs.{from_words}
+use Rattle.ht_pair.specs.Products.{IsProduct}
 
 pub record IsPartOf (shape : Shape) (q : List Row) (row x : Row) : Type 0 where
   pub rest : List ℕ
@@ -47,6 +50,11 @@ pub record AreBlocks (shape : Shape) (q p rows : List Row) : Type 0 where
   pub prefix_free : IsPrefixFree (from_words rows)
   pub ascending : IsAscending (from_words rows)
   pub covered : (row : Row) → Contains p row → (z : List ℕ) → IsUnderSome (row.to · z) (from_words q) → IsUnderSome (row.from · z) (from_words rows)
+
+pub record IsFullProduct (shape : Shape) (p q s : List Row) : Type 0 where
+  pub product : IsProduct shape p q s
+  pub moves : (u w : Word) → Moves s u w ↔ ((v : Word) × Moves p u v × Moves q v w)
+  pub ascending : IsAscending (from_words s)
 
 pub record IsRun (p : List Row) (w : Word) (run : List Row) : Type 0 where
   pub before : List Row

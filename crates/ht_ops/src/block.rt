@@ -1,15 +1,15 @@
-//! The rows that rows give with an element: a block for each row.
-ghost use Rattle.std.specs.Prelude.{◌≡◌, ◌++◌, map, All, Contains, IfOk, OnOk};
-ghost use Rattle.ht_word.specs.Words.{IsUnder, IsWordOf};
+//! The rows that rows give with other rows: a block for each row.
+ghost use Rattle.std.specs.Prelude.{◌≡◌, ◌++◌, map, Contains, IfOk, OnOk};
+ghost use Rattle.ht_word.specs.Words.{IsUnder, IsAscending};
 ghost use Rattle.ht_pair.specs.declared.row.Row.{Row};
-ghost use Rattle.ht_pair.specs.Actions.{IsCanonical};
-ghost use Rattle.ht_pair.specs.Pairs.{IsPair, to_words};
+ghost use Rattle.ht_pair.specs.Bases.{IsBasis};
+ghost use Rattle.ht_pair.specs.Pairs.{from_words};
 ghost use Rattle.ht_pair.specs.Tables.{IsTable};
 ghost use Rattle.ht_ops.specs.Blocks.{moved_by, carried_by, HasBlock, AreBlocks};
 
 use crate::run::run_under;
-use ht_pair::{Element, Row, Rows};
-use ht_word::NoMemory;
+use ht_pair::{Row, Rows, place_of};
+use ht_word::{NoMemory, Shape};
 use std::alloc::Global;
 
 // The row, and then the other, which moves all words under the row's `to` word.
@@ -45,22 +45,21 @@ fn add_run(alloc: Global, rows: &mut Rows, row: &Row, run: &[Row]) -> Result<(),
     Ok(())
 }
 
-// Adds the rows that the row gives with the rows of the second element: one where a row of these
-// moves all that it gives, and else one for each of the run below its `to` word. O(log N)
-// comparisons of words for the N rows of the second element, and one for each row that is added.
-pub(crate) fn add_block(
+// Adds the rows that the row gives with the other rows: one where a row of these moves all that it
+// gives, and else one for each of the run below its `to` word. O(log N) comparisons of words for the
+// N other rows, and one for each row that is added.
+fn add_block(
     alloc: Global,
+    shape: Shape,
     rows: &mut Rows,
     row: &Row,
-    b: &Element,
     others: &[Row],
 ) -> Result<(), NoMemory>
-    requires same { others.now ≡ b.now.rows }
-    requires canonical { IsCanonical b.now.shape others.now }
-    requires word { IsWordOf b.now.shape row.now.to }
-    ensures { OnOk result (HasBlock b.now.shape others.now row.now rows.old rows.new) }
+    requires basis { IsBasis shape (from_words others.now) }
+    requires ascending { IsAscending (from_words others.now) }
+    ensures { OnOk result (HasBlock shape others.now row.now rows.old rows.new) }
 {
-    match b.row_of(&row.to) {
+    match place_of(others, &row.to) {
         Some(place) => {
             rows.push(moved(alloc, row, &others[place])?)?;
             Ok(())
@@ -69,18 +68,22 @@ pub(crate) fn add_block(
     }
 }
 
-// The rows that the rows give with those of an element, block by block, in order. O(log N)
-// comparisons of words for each row, for the N rows of the element, and one for each row made.
-pub(crate) fn blocks_of(alloc: Global, rows: &[Row], b: &Element) -> Result<Rows, NoMemory>
-    requires table { IsTable b.now.shape rows.now }
-    requires words { All (IsWordOf b.now.shape) (to_words rows.now) }
-    ensures blocks { IfOk result (AreBlocks b.now.shape b.now.rows rows.now) }
-    ensures second { OnOk result (IsPair b.now.shape b.now.rows) }
+// The rows that the rows give with the others, block by block, in order. O(log N) comparisons of
+// words for each row, for the N others, and one for each row made.
+pub(crate) fn blocks_of(
+    alloc: Global,
+    shape: Shape,
+    rows: &[Row],
+    others: &[Row],
+) -> Result<Rows, NoMemory>
+    requires table { IsTable shape rows.now }
+    requires basis { IsBasis shape (from_words others.now) }
+    requires ascending { IsAscending (from_words others.now) }
+    ensures { IfOk result (AreBlocks shape others.now rows.now) }
 {
-    let others = b.rows(alloc)?;
     let mut blocks = Rows::new(alloc);
     for row in rows {
-        add_block(alloc, &mut blocks, row, b, others.as_slice())?;
+        add_block(alloc, shape, &mut blocks, row, others)?;
     }
     Ok(blocks)
 }

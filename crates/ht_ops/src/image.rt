@@ -1,10 +1,13 @@
 //! Images: where powers of elements, one after another, send the words under a word.
-ghost use Rattle.std.specs.Prelude.{◌≡◌, ◌≢◌, ◌-◌, ◌^◌, [], ◌∷◌, map, pos, negsuc, ◌≤ℤ◌, IfOk, MatchOption};
+ghost use Rattle.std.specs.Prelude.{◌≡◌, ◌≢◌, [], ◌∷◌, map, pos, IfOk, OnOk, MatchOption};
 ghost use Rattle.ht_word.specs.declared.word.Word.{Word};
 ghost use Rattle.ht_word.specs.Words.{◌·◌};
 ghost use Rattle.ht_pair.specs.declared.row.Row.{Row};
 ghost use Rattle.ht_pair.specs.Images.{Entry};
+ghost use Rattle.ht_pair.specs.Pairs.{IsPair};
+ghost use Rattle.ht_pair.specs.Tables.{IsTable};
 ghost use Rattle.ht_pair.specs.ValueLists.{IsValueList, IsFollowed};
+ghost use Rattle.ht_ops.specs.Blocks.{AreBlocks};
 ghost use Rattle.ht_ops.specs.Walks.{IsWalked};
 
 use crate::block::blocks_of;
@@ -66,7 +69,7 @@ impl Image {
         requires { IsValueList f.now.shape self.now }
         ensures { IfOk result (IsFollowed f.now.shape self.now f.now.rows (pos 1)) }
     {
-        let moved = blocks_of(alloc, self.rows.as_slice(), f)?;
+        let moved = followed(alloc, self.rows.as_slice(), f)?;
         let rows = merge_table(alloc, f.shape(), moved)?;
         Ok(Image { rows })
     }
@@ -138,6 +141,16 @@ impl Image {
         }
         Ok(image)
     }
+}
+
+// The rows, and then the element, in order and not merged.
+fn followed(alloc: Global, rows: &[Row], f: &Element) -> Result<Rows, NoMemory>
+    requires { IsTable f.now.shape rows.now }
+    ensures blocks { IfOk result (AreBlocks f.now.shape f.now.rows rows.now) }
+    ensures second { OnOk result (IsPair f.now.shape f.now.rows) }
+{
+    let others = f.rows(alloc)?;
+    blocks_of(alloc, f.shape(), rows, others.as_slice())
 }
 
 // The rows, from the base with the letters of their `from` words.

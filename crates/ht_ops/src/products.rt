@@ -8,7 +8,7 @@ ghost use Rattle.ht_pair.specs.declared.fault.OpFault.TheVariants as op_fault;
 ghost use Rattle.ht_pair.specs.declared.fault.RowsFault.TheVariants as rows_fault;
 ghost use Rattle.ht_ops.specs.Blocks.{IsPairFault};
 
-use crate::block::blocks_of;
+use crate::full::full_product;
 use ht_pair::{Element, OpFault, Rows, RowsFault};
 use ht_word::NoMemory;
 use std::alloc::Global;
@@ -29,14 +29,16 @@ pub fn product(alloc: Global, a: &Element, b: &Element) -> Result<Element, OpFau
     }
 }
 
-// Rows of the product, in order and not reduced: a block of rows for each row of the first element.
+// Rows of the product, in order and not reduced.
 fn product_rows(alloc: Global, a: &Element, b: &Element) -> Result<Rows, NoMemory>
     requires { a.now.shape ≡ b.now.shape }
     ensures product { IfOk result (IsProduct a.now.shape a.now.rows b.now.rows) }
     ensures first { OnOk result (IsPair a.now.shape a.now.rows) }
     ensures second { OnOk result (IsPair a.now.shape b.now.rows) }
 {
-    blocks_of(alloc, a.rows(alloc)?.as_slice(), b)
+    let rows = a.rows(alloc)?;
+    let others = b.rows(alloc)?;
+    full_product(alloc, a.shape(), rows.as_slice(), others.as_slice())
 }
 
 // The rows of a product are a pair, so they are too large or memory is wanting.

@@ -10,26 +10,17 @@ use Rattle.std.specs.Iterator.{Drains}
 use Rattle.std.specs.List.{splice}
 use Rattle.std.specs.Vec.Iter.{into_iter_items, into_iter_len, into_iter_steps}
 use Rattle.std.specs.declared.vec.IntoIter.{IntoIter}
-use Rattle.std.specs.declared.cmp.Ordering.TheVariants.{Less}
 use Rattle.ht_word.specs.declared.word.Word.{Word}
 use Rattle.ht_word.specs.declared.shape.Shape.{Shape}
-use Rattle.ht_word.specs.Words.{◌·◌, child, word_cmp, IsUnder, IsAscending}
+use Rattle.ht_word.specs.Words.{◌·◌, child, IsUnder}
 use Rattle.ht_word.proofs.WordLaws.{under_refl}
-use Rattle.ht_word.proofs.ListLaws.{Contains-nil, Contains-here, Contains-there, Contains-cons_cases, AllPairs-nil, AllPairs-cons, AllPairs-head, AllPairs-tail, AllPairs-append, AllPairs-left, AllPairs-right, AllPairs-across, AllPairs-weaker}
+use Rattle.ht_word.proofs.ListLaws.{Contains-nil, Contains-here, Contains-there, Contains-cons_cases, AllPairs-nil, AllPairs-cons, AllPairs-head, AllPairs-tail, AllPairs-append, AllPairs-left, AllPairs-right, AllPairs-across}
 use Rattle.std.proofs.lemmas.List.Elements.{Contains-append_cases}
-use Rattle.ht_pair.specs.Bases.{IsPrefixFree, roots}
+use Rattle.ht_pair.specs.Bases.{roots}
 use Rattle.ht_pair.specs.HeldBases.{BasisValue, IsHeldBasis, children, expanded_at, IsExpandedAt}
 use Rattle.ht_pair.proofs.BasisLaws.{roots_basis, basis_expanded, children_to, child_of, child_under}
-use Rattle.ht_pair.proofs.ConeOrder.{IsBefore, before_from, before_less, before_extended, child_before}
+use Rattle.ht_pair.proofs.ConeOrder.{IsBefore, before_extended, child_before, all_before, before_ascending}
 use Rattle.ht_pair.proofs.IdentityLaws.{roots_ascending}
-
--- in prefix-free words in ascending order each cone is before all later ones
-pub order_from : (X : List Word) → IsPrefixFree X → IsAscending X → AllPairs IsBefore X
-order_from X free ascending = λ i j d l m. before_from _ _ (ascending i j d l m) (free i j d l m)
-
--- words whose cones are in order are in ascending order
-pub order_ascending : (X : List Word) → AllPairs IsBefore X → IsAscending X
-order_ascending X order = AllPairs-weaker IsBefore (λ u v. word_cmp u v ≡ Less) X order (λ u v c e before. before_less u v before)
 
 -- what is under words whose cones are in order has its cones in this order
 pub before_below : (u v s t : Word) → IsBefore u v → IsUnder s u → IsUnder t v → IsBefore s t
@@ -65,7 +56,7 @@ roots_held shape = record { basis = roots_basis shape; ascending = roots_ascendi
 held_expanded : (shape : Shape) (A B : List Word) (x : Word) → IsHeldBasis shape (A ++ x ∷ B) → IsHeldBasis shape (A ++ children shape x ++ B)
 held_expanded shape A B x h = record {
   basis = basis_expanded shape A B x h.basis;
-  ascending = order_ascending (A ++ children shape x ++ B) (order_expanded A B x shape.n (order_from (A ++ x ∷ B) h.basis.prefix_free h.ascending));
+  ascending = before_ascending (A ++ children shape x ++ B) (order_expanded A B x shape.n (all_before (A ++ x ∷ B) h.basis.prefix_free h.ascending));
 }
 
 -- and one some of whose words do, behind a front that stays

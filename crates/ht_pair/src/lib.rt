@@ -31,5 +31,6 @@ mod tiling;
 pub use basis::Basis;
 pub use element::Element;
 pub use fault::{OpFault, RowsFault};
+pub use moves::place_of;
 pub use reduce::{merge_table, reduce_rows};
 pub use row::{Row, Rows};

@@ -42,9 +42,9 @@ pub(crate) fn are_same_rows(rows: &[Row], other: &[Row]) -> bool
     true
 }
 
-// The place, from 0, of the row whose `from` word is a prefix of the word. O(log N) comparisons
-// of words.
-pub(crate) fn place_of(rows: &[Row], word: &Word) -> Option<usize>
+/// The place, from 0, of the row whose `from` word is a prefix of the word; `None` exactly where
+/// there is none. A binary search: O(log N) comparisons of words for N rows; no memory.
+pub fn place_of(rows: &[Row], word: &Word) -> Option<usize>
     requires prefix_free { IsPrefixFree (from_words rows.now) }
     requires ascending { IsAscending (from_words rows.now) }
     ensures { MatchOption result ((v : Word) → ¬ Moves rows.now word.now v) (λ place. (row : Row) × (slice_get rows.now place ≡ Some row) × IsUnder word.now row.from) }

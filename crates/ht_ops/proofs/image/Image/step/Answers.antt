@@ -1,21 +1,15 @@
-use Rattle.std.proofs.Common.{List, sym, subst, All}
-use Rattle.ht_word.specs.Words.{IsWordOf}
+use Rattle.std.proofs.Common.{List, sym, subst}
 use Rattle.ht_word.specs.declared.shape.Shape.{Shape}
-use Rattle.ht_pair.specs.Pairs.{to_words}
 use Rattle.ht_pair.specs.Tables.{IsTable, IsMergedTable}
 use Rattle.ht_pair.specs.declared.row.Row.{Row}
 use Rattle.ht_ops.specs.Blocks.{AreBlocks}
 use Rattle.ht_ops.proofs.BlockLaws.{blocks_table}
-use Rattle.ht_ops.proofs.ImageSteps.{image_table, image_words, merged_behind, step_followed}
+use Rattle.ht_ops.proofs.ImageSteps.{image_table, merged_behind, step_followed}
 use Rattle.ht_ops.proofs.image.Image.step.Goals as goal
 
-pub blocks_of-requires-clause-table : goal.blocks_of-requires-clause-table
-blocks_of-requires-clause-table c =
+pub followed-requires : goal.followed-requires
+followed-requires c =
     subst (IsTable c.args.f.now.shape) (sym c.as_slice.ensures) (image_table c.args.f.now.shape c.self.inside.rows c.args.self.now c.self.invariant c.self.view_is c.requires)
-
-pub blocks_of-requires-clause-words : goal.blocks_of-requires-clause-words
-blocks_of-requires-clause-words c =
-    subst (λ (t : List Row). All (IsWordOf c.args.f.now.shape) (to_words t)) (sym c.as_slice.ensures) (image_words c.args.f.now.shape c.self.inside.rows c.args.self.now c.self.invariant c.self.view_is c.requires)
 
 pub merge_table-requires : goal.merge_table-requires
 merge_table-requires c =
