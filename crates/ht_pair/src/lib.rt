@@ -34,3 +34,4 @@ pub use fault::{OpFault, RowsFault};
 pub use moves::place_of;
 pub use reduce::{merge_table, reduce_rows};
 pub use row::{Row, Rows};
+pub use side::Side;

@@ -6,15 +6,16 @@ use crate::{Row, Rows};
 use ht_word::{NoMemory, Word};
 use std::cmp::Ordering;
 
+/// The `from` words of rows, or their `to` words.
 #[derive(Clone, Copy, Debug, PartialEq, Eq)]
-pub(crate) enum Side {
+pub enum Side {
     From,
     To,
 }
 
 impl Side {
-    // The word on this side of a row.
-    pub(crate) fn word(self, row: &Row) -> &Word
+    /// The word on this side of a row.
+    pub fn word(self, row: &Row) -> &Word
         ensures { result.now ≡ word_on self row.now }
     {
         match self {

@@ -1,0 +1,3 @@
+pub mod YLaws
+pub mod MarkLaws
+pub mod ClassLaws
