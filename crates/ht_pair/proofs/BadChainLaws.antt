@@ -7,6 +7,7 @@ use Rattle.ht_word.specs.Words.{IsLetter, IsLetters, ◌·◌, IsUnder, IsUnderS
 use Rattle.ht_word.specs.declared.shape.Shape.{Shape}
 use Rattle.ht_word.specs.declared.word.Word.{Word}
 use Rattle.ht_word.proofs.WordLaws.{after-append, after-nil, after_cancel, under_after, under_trans, under_antisym, All-from_contains, letters_append, word_rest}
+use Rattle.ht_pair.specs.BadChains.{Splits, IsJoined, LeadsToSplit, ComesFromJoined}
 use Rattle.ht_pair.specs.Bases.{IsBasis}
 use Rattle.ht_pair.specs.Pairs.{IsPair}
 use Rattle.ht_pair.specs.SemiNormal.{CarriesUnder, StaysAhead, StaysBehind, IsSemiNormal}
@@ -14,24 +15,6 @@ use Rattle.ht_pair.specs.Steps.{Carries}
 use Rattle.ht_pair.specs.declared.row.Row.{Row}
 use Rattle.ht_pair.proofs.BasisLaws.{prefix_free_same, some_at, basis_word}
 use Rattle.ht_pair.proofs.CarriesLaws.{carries_single, carries_word, carries_extends, carries_back, carries_rest, carries_sum, carries_itself}
-
--- p carries x to no word under X, and the turned pair does not
-unfoldable pub Splits : Shape → List Row → List Word → Word → Type 0
-Splits shape p X x = ¬ CarriesUnder shape p (pos 1) x X
-
--- the turned pair carries x to no word under X
-unfoldable pub IsJoined : Shape → List Row → List Word → Word → Type 0
-IsJoined shape p X x = ¬ CarriesUnder shape p (negsuc 0) x X
-
--- p carries x through k further words of X to one that splits
-unfoldable pub LeadsToSplit : Shape → List Row → List Word → ℕ → Word → Type 0
-LeadsToSplit shape p X zero x = Splits shape p X x
-LeadsToSplit shape p X (suc k) x = (y : Word) × Contains X y × Carries shape p (pos 1) x y × LeadsToSplit shape p X k y
-
--- the turned pair carries x through k further words of X to one that is joined
-unfoldable pub ComesFromJoined : Shape → List Row → List Word → ℕ → Word → Type 0
-ComesFromJoined shape p X zero x = IsJoined shape p X x
-ComesFromJoined shape p X (suc k) x = (y : Word) × Contains X y × Carries shape p (negsuc 0) x y × ComesFromJoined shape p X k y
 
 -- a power carries a word of X to y and more letters, y in X: then the power back carries y to no word under X, unless there are no more letters
 strict_ends : (shape : Shape) (p : List Row) → IsPair shape p → (X : List Word) → IsBasis shape X → (k : ℤ) (x y : Word) (z : List ℕ) → Contains X x → Carries shape p k x (y · z) → CarriesUnder shape p (neg_ℤ k) y X → z ≡ []

@@ -8,12 +8,13 @@ use Rattle.ht_word.specs.declared.word.Word.{Word}
 use Rattle.ht_word.proofs.Deciding.{under_some_or_not, contains_or_not}
 use Rattle.ht_word.proofs.ListLaws.{Contains-nil, Contains-here, Contains-there, Contains-cons_cases, Contains-map, contained_in_map}
 use Rattle.ht_pair.specs.Actions.{Moves, child_row, IsReduced}
+use Rattle.ht_pair.specs.BadChains.{Splits, IsJoined, LeadsToSplit}
 use Rattle.ht_pair.specs.Bases.{longest, IsBasis}
 use Rattle.ht_pair.specs.Pairs.{from_words, IsPair, turned}
 use Rattle.ht_pair.specs.SemiNormal.{CarriesUnder}
 use Rattle.ht_pair.specs.Steps.{Carries}
 use Rattle.ht_pair.specs.declared.row.Row.{Row}
-use Rattle.ht_pair.proofs.BadChainLaws.{Splits, IsJoined, LeadsToSplit, HasNoBadChain}
+use Rattle.ht_pair.proofs.BadChainLaws.{HasNoBadChain}
 use Rattle.ht_pair.proofs.BasisLaws.{basis_word}
 use Rattle.ht_pair.proofs.ReducedLaws.{row_above}
 use Rattle.ht_pair.proofs.CanonicalLaws.{Everywhere, reduced_pair}
@@ -24,7 +25,7 @@ use Rattle.ht_pair.proofs.MovesLaws.{turn, turned-turned, turned_pair}
 -- ---- deciding what one step of a reduced pair carries
 
 -- whether a reduced pair carries a word to some word
-carries_or_not : (shape : Shape) (p : List Row) → IsPair shape p → IsReduced shape p → (u : Word) → IsWordOf shape u → ((v : Word) × Carries shape p (pos 1) u v) ⊎ ¬ ((v : Word) × Carries shape p (pos 1) u v)
+pub carries_or_not : (shape : Shape) (p : List Row) → IsPair shape p → IsReduced shape p → (u : Word) → IsWordOf shape u → ((v : Word) × Carries shape p (pos 1) u v) ⊎ ¬ ((v : Word) × Carries shape p (pos 1) u v)
 carries_or_not shape p pair reduced u h = elim (under_some_or_not u (from_words p)) [
   | inl s ↦ (let g = contained_in_map (λ (t : Row). t.from) p s.above s.listed in
       let m : Moves p u (g.0.to · s.under.rest) = record { row = g.0; rest = s.under.rest; listed = g.1; from = s.under.is ∙ ap (λ t. t · s.under.rest) (sym g.2); to = refl } in

@@ -9,12 +9,13 @@ use Rattle.ht_word.proofs.Deciding.{contains_or_not}
 use Rattle.ht_word.proofs.ListLaws.{Contains-nil, Contains-here, Contains-there, Contains-cons_cases}
 use Rattle.ht_word.proofs.WordLaws.{under_refl, under_same, All-from_contains}
 use Rattle.ht_pair.specs.Actions.{IsReduced}
+use Rattle.ht_pair.specs.BadChains.{Splits, IsJoined, LeadsToSplit, ComesFromJoined}
 use Rattle.ht_pair.specs.Bases.{longest, roots, IsBasis, IsAllUnder}
 use Rattle.ht_pair.specs.Pairs.{from_words, IsPair}
 use Rattle.ht_pair.specs.SemiNormal.{CarriesUnder, IsSemiNormal}
 use Rattle.ht_pair.specs.Steps.{Carries}
 use Rattle.ht_pair.specs.declared.row.Row.{Row}
-use Rattle.ht_pair.proofs.BadChainLaws.{Splits, IsJoined, LeadsToSplit, ComesFromJoined, semi_normal_without, bad_word_out}
+use Rattle.ht_pair.proofs.BadChainLaws.{semi_normal_without, bad_word_out}
 use Rattle.ht_pair.proofs.BasisLaws.{longest_least, some_at, some_trans, under_roots, basis_holds, basis_word, roots_basis, words_of, words_of_basis, words_of_length}
 use Rattle.ht_pair.proofs.CarriesLaws.{carries_word, carries_from_steps, carries_back, carries_injective}
 use Rattle.ht_pair.proofs.ChainSearch.{bad_or_none}
@@ -75,7 +76,7 @@ chain_words shape p pair X i (suc k) x c comes leads =
 -- ---- rounds
 
 -- N has each word under X that p carries to no word under X
-HasInner : Shape → List Row → List Word → List Word → Type 0
+unfoldable pub HasInner : Shape → List Row → List Word → List Word → Type 0
 HasInner shape p X N = (u : Word) → IsWordOf shape u → IsUnderSome u X → ¬ CarriesUnder shape p (pos 1) u X → Contains N u
 
 -- a semi-normal basis, under which every semi-normal basis is
@@ -92,7 +93,7 @@ without (y ∷ N) x c = elim (Contains-cons_cases y N x c) [
 ]
 
 -- one bad chain after another is expanded; each takes a word off the list N
-rounds : (shape : Shape) (p : List Row) → IsPair shape p → IsReduced shape p → (k : ℕ) (X N : List Word) → IsBasis shape X → length N ≤ k → HasInner shape p X N → ((W : List Word) → IsSemiNormal shape p W → IsAllUnder W X) → (V : List Word) × IsLeastSemiNormal shape p V × (longest V ≤ longest X + k)
+pub rounds : (shape : Shape) (p : List Row) → IsPair shape p → IsReduced shape p → (k : ℕ) (X N : List Word) → IsBasis shape X → length N ≤ k → HasInner shape p X N → ((W : List Word) → IsSemiNormal shape p W → IsAllUnder W X) → (V : List Word) × IsLeastSemiNormal shape p V × (longest V ≤ longest X + k)
 unfolding HasInner Splits IsJoined ComesFromJoined
 rounds shape p pair reduced zero X N basis l inner wide = elim (bad_or_none shape p pair reduced X basis) [
   | inr none ↦ (X, record { semi_normal = semi_normal_without shape p pair X none; least = wide }, omega arith)

@@ -16,6 +16,7 @@ pub mod Steps
 pub mod Products
 pub mod Conjugacy
 pub mod SemiNormal
+pub mod BadChains
 pub mod Kinds
 pub mod Reaches
 pub mod Parts
