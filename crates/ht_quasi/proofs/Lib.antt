@@ -1,3 +1,5 @@
 pub mod YLaws
 pub mod MarkLaws
 pub mod ClassLaws
+pub mod StepLaws
+pub mod WalkLaws

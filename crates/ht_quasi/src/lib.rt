@@ -1,13 +1,11 @@
-//! Bases on the way to the quasinormal basis of an element: what one step of the element does to
-//! their words.
+//! The least semi-normal basis of an element of the group G(n, r), found by rounds of bad chains.
 //!
-//! - `quasi`: a basis with its rows and classes
-//! - `y`: the rows of what one step carries under a basis
-//! - `class`: the classes of the words of a basis
+//! - `step`: what an element does next with the words of a basis
+//! - `chain`: the words of the bad chains of a basis
+//! - `round`: one round marks them
+//! - `least`: rounds until no bad chain is left
+//! - `fault`: why no basis was found
 #![tactic(auto)]
 
-mod class;
-mod quasi;
-mod y;
-
-pub use quasi::{Class, Classes, Quasi};
+mod chain;
+mod step;
