@@ -25,7 +25,7 @@ use Rattle.ht_pair.proofs.MovesLaws.{turn, turned-turned, turned_pair}
 -- ---- deciding what one step of a reduced pair carries
 
 -- whether a reduced pair carries a word to some word
-pub carries_or_not : (shape : Shape) (p : List Row) → IsPair shape p → IsReduced shape p → (u : Word) → IsWordOf shape u → ((v : Word) × Carries shape p (pos 1) u v) ⊎ ¬ ((v : Word) × Carries shape p (pos 1) u v)
+carries_or_not : (shape : Shape) (p : List Row) → IsPair shape p → IsReduced shape p → (u : Word) → IsWordOf shape u → ((v : Word) × Carries shape p (pos 1) u v) ⊎ ¬ ((v : Word) × Carries shape p (pos 1) u v)
 carries_or_not shape p pair reduced u h = elim (under_some_or_not u (from_words p)) [
   | inl s ↦ (let g = contained_in_map (λ (t : Row). t.from) p s.above s.listed in
       let m : Moves p u (g.0.to · s.under.rest) = record { row = g.0; rest = s.under.rest; listed = g.1; from = s.under.is ∙ ap (λ t. t · s.under.rest) (sym g.2); to = refl } in

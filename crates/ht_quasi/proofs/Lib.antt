@@ -3,3 +3,5 @@ pub mod MarkLaws
 pub mod ClassLaws
 pub mod StepLaws
 pub mod WalkLaws
+pub mod ChainLaws
+pub mod RoundLaws

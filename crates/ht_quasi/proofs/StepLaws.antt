@@ -8,7 +8,7 @@ use Rattle.ht_word.specs.declared.word.Word.{Word}
 use Rattle.ht_word.proofs.WordLaws.{length-after, under_same}
 use Rattle.ht_pair.specs.Actions.{Moves, IsCanonical}
 use Rattle.ht_pair.specs.BadChains.{Splits}
-use Rattle.ht_pair.specs.HeldBases.{IsPlaceAbove}
+use Rattle.ht_pair.specs.HeldBases.{IsPlaceAbove, IsHeldBasis}
 use Rattle.ht_pair.specs.Steps.{Carries}
 use Rattle.ht_pair.specs.declared.row.Row.{Row}
 use Rattle.ht_pair.proofs.CanonicalLaws.{Everywhere, reduced_pair}
@@ -97,5 +97,5 @@ one_more_step shape p X count steps new x step h here has e = subst (HaveSteps s
   ];
 })
 
-pub all_steps : (shape : Shape) (p : List Row) (X : List Word) (count : ℕ) (steps : List Step) → count ≡ length X → HaveSteps shape p X count steps → AreSteps shape p X steps
-all_steps shape p X count steps e h = record { many = h.many ∙ e; each = h.each }
+pub all_steps : (shape : Shape) (p : List Row) (X : List Word) (count : ℕ) (steps : List Step) → IsHeldBasis shape X → count ≡ length X → HaveSteps shape p X count steps → AreSteps shape p X steps
+all_steps shape p X count steps held e h = record { held = held; many = h.many ∙ e; each = h.each }

@@ -4,12 +4,11 @@
 --     GoesTo shape p X x place         p carries x to the word of X at the place, counted from 0
 --     GoesBelow shape p X x            p carries x to a longer word under a word of X
 --     HasStep shape p X x step         what p does with x: it carries x to no word under X, to a word of X, or to one below
---     AreSteps shape p X steps         each word of X has its step
+--     AreSteps shape p X steps         X is a basis in ascending order, each word with its step
 --     BeginsBadChain shape p X x       x is joined, and p carries it through words of X to one that splits
 --     IsInBadChain shape p X x         a joined word of X leads to x, and x to a word that splits
 --     IsMarked marks place             the mark at the place is set
---     AreBadMarks shape p X marks      words of bad chains are marked, all that begin one among them, and no others
---     IsLeastBasis shape p X           the least semi-normal basis is X
+--     AreBadMarks shape p X marks      words of bad chains of the basis X are marked, all that begin one among them, and no others
 use Rattle.std.specs.Prelude.{ℕ, ◌≡◌, ◌≢◌, Bool, true, false, List, [], length, Some, slice_get, slice_index_or, Contains, pos}
 use Rattle.ht_word.specs.declared.word.Word.{Word}
 use Rattle.ht_word.specs.declared.shape.Shape.{Shape}
@@ -39,6 +38,7 @@ HasStep shape p X x (Next place) = GoesTo shape p X x place
 HasStep shape p X x Descends = GoesBelow shape p X x
 
 pub record AreSteps (shape : Shape) (p : List Row) (X : List Word) (steps : List Step) : Type 0 where
+  pub held : IsHeldBasis shape X
   pub many : length steps ≡ length X
   pub each : (place : ℕ) (x : Word) (step : Step) → slice_get X place ≡ Some x → slice_get steps place ≡ Some step → HasStep shape p X x step
 

@@ -8,4 +8,5 @@
 #![tactic(auto)]
 
 mod chain;
+mod round;
 mod step;
