@@ -5,3 +5,5 @@ pub mod StepLaws
 pub mod WalkLaws
 pub mod ChainLaws
 pub mod RoundLaws
+pub mod ExpandedLaws
+pub mod LeastLaws

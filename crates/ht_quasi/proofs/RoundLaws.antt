@@ -3,9 +3,9 @@ use Rattle.std.proofs.Common.{◌≡◌, ℕ, zero, suc, ◌<◌, Bool, List, []
 use Rattle.std.proofs.lemmas.Option.{slice_get_within}
 use Rattle.ht_word.specs.declared.shape.Shape.{Shape}
 use Rattle.ht_word.specs.declared.word.Word.{Word}
-use Rattle.ht_word.specs.Words.{◌·◌, IsWordOf, IsUnder}
+use Rattle.ht_word.specs.Words.{◌·◌}
 use Rattle.ht_word.proofs.WordLaws.{after-nil, after_cancel, under_refl, under_after}
-use Rattle.ht_pair.specs.Actions.{Alike, Moves}
+use Rattle.ht_pair.specs.Actions.{Alike}
 use Rattle.ht_pair.specs.BadChains.{Splits as SplitsIn, IsJoined, LeadsToSplit, ComesFromJoined}
 use Rattle.ht_pair.specs.Pairs.{IsPair, turned}
 use Rattle.ht_pair.specs.Products.{IsPower}
@@ -18,8 +18,8 @@ use Rattle.ht_pair.proofs.CarriesLaws.{carries_single, carries_back}
 use Rattle.ht_pair.proofs.MovesLaws.{turned_pair}
 use Rattle.ht_quasi.specs.declared.step.Step.{Step}
 use Rattle.ht_quasi.specs.declared.step.Step.TheVariants.{Splits, Next, Descends}
-use Rattle.ht_quasi.specs.Rounds.{GoesTo, GoesBelow, HasStep, AreSteps, BeginsBadChain, IsInBadChain, IsMarked, AreBadMarks}
-use Rattle.ht_quasi.specs.Walks.{AreInside, LeadsIn, FollowsIn, IsBadPlace, AreBadPlaces}
+use Rattle.ht_quasi.specs.Rounds.{GoesTo, GoesBelow, HasStep, AreSteps, AreBadMarks}
+use Rattle.ht_quasi.specs.Walks.{AreInside, LeadsIn, FollowsIn, AreBadPlaces}
 use Rattle.ht_quasi.proofs.ChainLaws.{leads_within}
 use Rattle.ht_quasi.proofs.StepLaws.{listed_at, same_at}
 

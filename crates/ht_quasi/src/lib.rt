@@ -8,5 +8,9 @@
 #![tactic(auto)]
 
 mod chain;
+mod fault;
+mod least;
 mod round;
 mod step;
+
+pub use fault::QuasiFault;

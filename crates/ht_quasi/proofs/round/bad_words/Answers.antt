@@ -1,6 +1,5 @@
 use Rattle.std.proofs.Common.{List, sym, subst, subst₂}
 use Rattle.std.proofs.lemmas.Result.{IfOk-weaker}
-use Rattle.std.specs.declared.vec.Vec.{Vec}
 use Rattle.ht_word.specs.declared.shape.Shape.{Shape}
 use Rattle.ht_quasi.specs.declared.step.Step.{Step}
 use Rattle.ht_quasi.specs.Rounds.{AreSteps, AreBadMarks}
