@@ -84,7 +84,7 @@ apart_holds P Q R k (inr m) (inr n) (inl r) f g apart = omega arith
 apart_holds P Q R k (inr m) (inr n) (inr o) f g apart = omega arith
 
 -- no word is under two children
-under_one_child : (u w : Word) (a b : ℕ) → a ≢ b → IsUnder w (child u a) → IsUnder w (child u b) → ⊥
+pub under_one_child : (u w : Word) (a b : ℕ) → a ≢ b → IsUnder w (child u a) → IsUnder w (child u b) → ⊥
 under_one_child u w a b n h g =
     let same : a ∷ h.rest ≡ b ∷ g.rest = after_cancel u (a ∷ h.rest) (b ∷ g.rest) (sym (after-append u (a ∷ []) h.rest) ∙ sym h.is ∙ g.is ∙ after-append u (b ∷ []) g.rest) in
     let heads : a ≡ b = cc in

@@ -27,6 +27,8 @@ pub mod ExpansionLaws
 pub mod LeastBasisLaws
 pub mod CountLaws
 pub mod BasisSizes
+pub mod InnerNodeLaws
+pub mod LeastBasisSizes
 pub mod OrderedBasisLaws
 pub mod QuasinormalLaws
 pub mod ExistenceLaws

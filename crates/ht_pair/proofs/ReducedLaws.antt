@@ -46,7 +46,7 @@ moves_as_child shape p u v a low high h = record {
 }
 
 -- a word above a child of u is above u, or it is the child
-above_child : (u s : Word) (a : ℕ) → IsUnder (child u a) s → IsUnder u s ⊎ (s ≡ child u a)
+pub above_child : (u s : Word) (a : ℕ) → IsUnder (child u a) s → IsUnder u s ⊎ (s ≡ child u a)
 above_child u s a h = elim (under_both h (under_after u (a ∷ []))) [
   | inr k ↦ inl k
   | inl k ↦ elim (cases_lt (length u.letters) (length s.letters)) [

@@ -1,7 +1,8 @@
 -- The rounds from the roots to the least semi-normal basis, and what they spend.
-use Rattle.std.proofs.Common.{◌≡◌, ℕ, ◌+◌, ◌*◌, ◌<◌, ◌≤◌, inl, inr, Bool, List, length, refl, sym, ap, ◌∙◌, subst, arith, Contains}
+use Rattle.std.proofs.Common.{◌≡◌, ℕ, ◌+◌, ◌*◌, ◌^◌, ◌<◌, ◌≤◌, inl, inr, Bool, List, length, refl, sym, ap, ◌∙◌, subst, arith, Contains}
 use Rattle.std.specs.Prelude.{◌-◌}
 use Rattle.std.proofs.Math.Nat.{mul-le-mul_left}
+use Rattle.std.proofs.lemmas.Bool.{cases_lt}
 use Rattle.std.proofs.lemmas.List.Elements.{All-contains}
 use Rattle.std.proofs.lemmas.Option.{slice_get_read}
 use Rattle.ht_word.specs.declared.shape.Shape.{Shape}
@@ -19,6 +20,7 @@ use Rattle.ht_pair.proofs.BasisSizes.{length-roots}
 use Rattle.ht_pair.proofs.ChainSearch.{bad_or_none}
 use Rattle.ht_pair.proofs.CountLaws.{no_fewer_below}
 use Rattle.ht_pair.proofs.HeldBasisLaws.{held_expanded_at}
+use Rattle.ht_pair.proofs.LeastBasisSizes.{quasinormal_size}
 use Rattle.ht_pair.proofs.QuasinormalLaws.{quasinormal_exists}
 use Rattle.ht_quasi.specs.Rounds.{AreBadMarks}
 use Rattle.ht_quasi.proofs.ExpandedLaws.{under_expanded, count_set, length-expanded, none_set}
@@ -105,3 +107,12 @@ over_budget shape p budget left basis marks count canonical way bad counted more
   where
     too_many : (before after least left count each all : ℕ) → before + left * each ≡ all → after ≡ before + count * each → after ≤ least → least ≤ all → left < count → 0 < each → ⊥
     too_many before after least left count each all e f g h more some = absurd (omega (arith, mul-le-mul_left {m = left + 1} {n = count} each (omega arith)))
+
+-- the budget was less than enough for any pair of so many rows
+pub not_enough : (shape : Shape) (p : List Row) (budget : ℕ) → IsCanonical shape p → (X : List Word) × IsQuasinormal shape p X × ¬ TakesAtMost shape X budget → (d : ℕ) → length p ≡ shape.r + d * (shape.n - 1)
+    → budget * (shape.n - 1) + shape.r < shape.r * shape.n ^ d
+not_enough shape p budget canonical q d e =
+    elim (cases_lt (budget * (shape.n - 1) + shape.r) (shape.r * shape.n ^ d)) [
+      | inl l ↦ l
+      | inr l ↦ absurd (q.2 (omega (arith, l, quasinormal_size shape p canonical.pair canonical.reduced q.0 q.1 d e)))
+    ]

@@ -1,5 +1,5 @@
 //! Rounds until no bad chain is left.
-ghost use Rattle.std.specs.Prelude.{◌≡◌, ◌≤◌, List, IfOk, IsErrOf};
+ghost use Rattle.std.specs.Prelude.{◌≡◌, ◌≤◌, ◌<◌, ◌+◌, ◌-◌, ◌*◌, ◌^◌, ℕ, List, length, IfOk, IsErrOf};
 ghost use Rattle.std.specs.List.{count_by};
 ghost use Rattle.ht_word.specs.declared.word.Word.{Word};
 ghost use Rattle.ht_pair.specs.Bases.{TakesAtMost};
@@ -22,6 +22,7 @@ pub(crate) fn least_basis(alloc: Global, a: &Element, budget: u32) -> Result<Bas
     ensures least { IfOk result (λ basis. (basis.shape ≡ a.now.shape) × IsQuasinormal a.now.shape a.now.rows basis.words) }
     ensures within { IfOk result (λ basis. TakesAtMost a.now.shape basis.words budget) }
     ensures budget { IsErrOf result QuasiFault.Budget → (X : List Word) × IsQuasinormal a.now.shape a.now.rows X × ¬ TakesAtMost a.now.shape X budget }
+    ensures enough { IsErrOf result QuasiFault.Budget → (d : ℕ) → length a.now.rows ≡ a.now.shape.r + d * (a.now.shape.n - 1) → budget * (a.now.shape.n - 1) + a.now.shape.r < a.now.shape.r * a.now.shape.n ^ d }
 {
     a.known();
     let back = inverse(alloc, a)?;

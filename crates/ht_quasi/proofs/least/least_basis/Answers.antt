@@ -1,7 +1,7 @@
 use Rattle.std.proofs.Common.{Bool, List, ap, ◌∙◌, sym, arith}
 use Rattle.ht_pair.specs.HeldBases.{expanded_at}
 use Rattle.ht_quasi.proofs.ExpandedLaws.{count_set}
-use Rattle.ht_quasi.proofs.LeastLaws.{at_roots, after_round, least_at_end, over_budget}
+use Rattle.ht_quasi.proofs.LeastLaws.{at_roots, after_round, least_at_end, over_budget, not_enough}
 use Rattle.ht_quasi.proofs.least.least_basis.Goals as goal
 
 pub rounds-init : goal.rounds-init
@@ -23,3 +23,9 @@ rounds-preserved c =
     after_round c.args.a.now.shape c.args.a.now.rows c.args.budget c.rounds.left old c.expand_all.new.self c.in_ok-marks.marks.items c.count_marks-count.result c.known.ensures.canonical c.rounds.invariant c.in_ok-marks.ensures
     (c.count_marks-count.ensures ∙ ap (λ (marks : List Bool). count_set marks) c.deref.ensures.value) (omega arith)
     (c.in_ok-expand_all.ensures.ok.0, c.in_ok-expand_all.ensures.ok.1 ∙ ap (λ (marks : List Bool). expanded_at old.shape old.words marks) c.deref-in-rounds.ensures.value)
+
+pub returns-then-count-left-clause-enough : goal.returns-then-count-left-clause-enough
+returns-then-count-left-clause-enough c = λ e.
+    not_enough c.args.a.now.shape c.args.a.now.rows c.args.budget c.known.ensures.canonical
+    (over_budget c.args.a.now.shape c.args.a.now.rows c.args.budget c.rounds.left c.rounds.basis c.in_ok-marks.marks.items c.count_marks-count.result c.known.ensures.canonical c.rounds.invariant c.in_ok-marks.ensures
+    (c.count_marks-count.ensures ∙ ap (λ (marks : List Bool). count_set marks) c.deref.ensures.value) (omega arith))
