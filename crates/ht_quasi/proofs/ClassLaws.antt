@@ -1,6 +1,6 @@
 -- The classes of the words of a basis.
-use Rattle.std.proofs.Common.{◌≡◌, ◌<◌, ◌↔◌, ◌⊎◌, inl, inr, Bool, true, false, true≢false, IsTrue, List, length, get_or, refl, sym, ap, ◌∙◌, subst, Contains, pos, negsuc}
-use Rattle.std.proofs.lemmas.List.Elements.{All-contains}
+use Rattle.std.proofs.Common.{◌≡◌, ◌<◌, ◌↔◌, ◌⊎◌, inl, inr, Bool, true, false, true≢false, IsTrue, List, length, get_or, refl, sym, ap, ◌∙◌, subst, All, Contains, pos, negsuc}
+use Rattle.std.proofs.lemmas.List.Elements.{All-contains, All-weaker}
 use Rattle.std.proofs.lemmas.Option.{slice_get_within, get_or_from_slice_get}
 use Rattle.ht_word.specs.declared.word.Word.{Word}
 use Rattle.ht_word.specs.declared.shape.Shape.{Shape}
@@ -101,3 +101,9 @@ split_not_joined shape p X x semi c splits joined = elim (All-contains (λ u. St
   | inl ahead ↦ splits (ahead 1)
   | inr behind ↦ joined (behind 1)
 ]
+
+-- each word of it is carried under it by one of the two
+pub one_sided : (shape : Shape) (p : List Row) (X : List Word) → IsSemiNormal shape p X → All (λ x. CarriesUnder shape p (pos 1) x X ⊎ CarriesUnder shape p (negsuc 0) x X) X
+one_sided shape p X semi =
+    All-weaker (λ x. StaysAhead shape p X x ⊎ StaysBehind shape p X x) (λ x. CarriesUnder shape p (pos 1) x X ⊎ CarriesUnder shape p (negsuc 0) x X)
+    (λ x stays. elim stays [ inl ahead ↦ inl (ahead 1) | inr behind ↦ inr (behind 1) ]) X semi.stays

@@ -7,3 +7,4 @@ pub mod ChainLaws
 pub mod RoundLaws
 pub mod ExpandedLaws
 pub mod LeastLaws
+pub mod QuasiLaws

@@ -7,7 +7,8 @@
 --     HasClass shape p X x class    x splits: p carries it to no word under X; x is joined: the power -1 carries it to no word
 --                                   under X; x is plain: both powers carry it to words under X
 --     AreClasses shape p X classes  each word of X has the class at its place
-use Rattle.std.specs.Prelude.{ℕ, pos, negsuc, ◌≡◌, ◌↔◌, Some, List, length, map, slice_get, All}
+--     IsQuasi shape p X y classes   X is the quasinormal basis of p, with its rows and classes; no word of it both splits and is joined
+use Rattle.std.specs.Prelude.{ℕ, pos, negsuc, ◌≡◌, ◌↔◌, ◌⊎◌, Some, List, length, map, slice_get, All}
 use Rattle.ht_word.specs.declared.word.Word.{Word}
 use Rattle.ht_word.specs.declared.shape.Shape.{Shape}
 use Rattle.ht_word.specs.Words.{IsWordOf, IsUnderSome, IsAscending}
@@ -15,7 +16,7 @@ use Rattle.ht_pair.specs.declared.row.Row.{Row}
 use Rattle.ht_pair.specs.Bases.{IsBasis, IsAllUnder}
 use Rattle.ht_pair.specs.Pairs.{from_words, to_words}
 use Rattle.ht_pair.specs.Steps.{Carries}
-use Rattle.ht_pair.specs.SemiNormal.{CarriesUnder}
+use Rattle.ht_pair.specs.SemiNormal.{CarriesUnder, IsQuasinormal}
 use Rattle.ht_quasi.specs.declared.quasi.Class.{Class}
 use Rattle.ht_quasi.specs.declared.quasi.Class.TheVariants.{Splits, Joined, Plain}
 
@@ -38,3 +39,9 @@ HasClass shape p X x Plain = CarriesUnder shape p (pos 1) x X × CarriesUnder sh
 pub record AreClasses (shape : Shape) (p : List Row) (X : List Word) (classes : List Class) : Type 0 where
   pub as_many : length classes ≡ length X
   pub each : (place : ℕ) (x : Word) (class : Class) → slice_get X place ≡ Some x → slice_get classes place ≡ Some class → HasClass shape p X x class
+
+pub record IsQuasi (shape : Shape) (p : List Row) (X : List Word) (y : List Row) (classes : List Class) : Type 0 where
+  pub least : IsQuasinormal shape p X
+  pub rows : IsYOf shape p X y
+  pub classified : AreClasses shape p X classes
+  pub one_side : All (λ x. CarriesUnder shape p (pos 1) x X ⊎ CarriesUnder shape p (negsuc 0) x X) X

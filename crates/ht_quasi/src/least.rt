@@ -24,7 +24,7 @@ pub(crate) fn least_basis(alloc: Global, a: &Element, budget: u32) -> Result<Bas
     ensures budget { IsErrOf result QuasiFault.Budget → (X : List Word) × IsQuasinormal a.now.shape a.now.rows X × ¬ TakesAtMost a.now.shape X budget }
     ensures enough { IsErrOf result QuasiFault.Budget → (d : ℕ) → length a.now.rows ≡ a.now.shape.r + d * (a.now.shape.n - 1) → budget * (a.now.shape.n - 1) + a.now.shape.r < a.now.shape.r * a.now.shape.n ^ d }
 {
-    a.known();
+    a.keeps_limits();
     let back = inverse(alloc, a)?;
     let mut basis = Basis::roots(alloc, a.shape())?;
     let mut left = budget as usize;

@@ -22,7 +22,7 @@ pub(crate) fn bad_words(
     requires inverse { IsPower a.now.shape a.now.rows (neg_ℤ (pos 1)) inverse.now.rows }
     ensures { IfOk result (λ marks. AreBadMarks a.now.shape a.now.rows basis.now.words marks.items) }
 {
-    a.known();
+    a.keeps_limits();
     let ahead = steps(alloc, a, basis)?;
     let behind = steps(alloc, inverse, basis)?;
     bad_places(alloc, ahead.as_slice(), behind.as_slice())

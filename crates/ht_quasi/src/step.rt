@@ -27,7 +27,7 @@ fn step_of(alloc: Global, a: &Element, basis: &Basis, word: &Word) -> Result<Ste
     requires { IsWordOf a.now.shape word.now }
     ensures { IfOk result (HasStep a.now.shape a.now.rows basis.now.words word.now) }
 {
-    a.known();
+    a.keeps_limits();
     let Some(moved) = a.move_word(alloc, word)? else {
         return Ok(Step::Splits);
     };

@@ -17,7 +17,7 @@ returns c =
     let a = c.args.a.now in
     let X = c.args.basis.now.words in
     IfOk-weaker c.bad_places.result (λ marks. AreBadPlaces c.as_slice.result.now c.as_slice-2.result.now marks.items) (λ marks. AreBadMarks a.shape a.rows X marks.items)
-    (λ marks m. bad_marks a.shape a.rows c.args.inverse.now.rows c.known.ensures.pair c.requires.inverse X c.as_slice.result.now c.as_slice-2.result.now marks.items
+    (λ marks m. bad_marks a.shape a.rows c.args.inverse.now.rows c.keeps_limits.ensures.pair c.requires.inverse X c.as_slice.result.now c.as_slice-2.result.now marks.items
     (subst (AreSteps a.shape a.rows X) (sym c.as_slice.ensures) c.in_ok-ahead.ensures)
     (subst₂ (λ (s : Shape) (steps : List Step). AreSteps s c.args.inverse.now.rows X steps) c.requires.back (sym c.as_slice-2.ensures) c.in_ok-behind.ensures)
     m) c.bad_places.ensures
