@@ -36,6 +36,7 @@ pub mod AlikePowerLaws
 pub mod SizeLaws
 pub mod TurnedLaws
 pub mod PowerLaws
+pub mod PowerProducts
 pub mod LargePowerLaws
 pub mod ConjugatePowerLaws
 pub mod KindLaws
