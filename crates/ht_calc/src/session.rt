@@ -59,7 +59,8 @@ impl Session {
 
     /// Answers one line, without its line feed. After a refused answer, and after want of memory,
     /// the session is as before. `reduce` and `let` take as long as the sorting of their rows, and
-    /// `show` as long as the copying of its rows. `equal` makes one pass over the rows.
+    /// `show` as long as the copying of its rows. `equal` makes one pass over the rows. A `let` with
+    /// factors makes one power for each factor, and one product for each factor but the first.
     pub fn answer<L: Library>(
         &mut self,
         alloc: Global,
