@@ -6,7 +6,7 @@ use Rattle.std.proofs.lemmas.List.Elements.{All-nil, All-cons}
 use Rattle.ht_word.specs.Words.{root_word}
 use Rattle.ht_pair.specs.declared.row.Row.{Row}
 use Rattle.ht_text.specs.Fronts.{IsRowsText, IsLongestFront}
-use Rattle.ht_text.specs.Texts.{IsDigitLetter, HasText, HasRowText, row_text}
+use Rattle.ht_text.specs.Texts.{IsDigitLetter, HasText, HasRowText, word_text, row_text}
 use Rattle.ht_script.specs.declared.ending.Ending.{Ending}
 use Rattle.ht_script.specs.declared.ending.Ending.TheVariants as ending
 use Rattle.ht_script.specs.Tokens.{◌▸◌, IsSpaces, IsSpan, IsApart, IsFirstToken}
@@ -27,14 +27,18 @@ row_tokens = λ t r h. rows_token t h.0.0 h.0.1
 row_takes_space : TakesSpace RowsFit
 row_takes_space = λ t r h. (h.0, All-cons (λ b. b ≡ 32) 32 r refl h.1)
 
+-- the text of the root 1
+pub root_text : HasText (root_word 1)
+root_text = record { root_low = omega arith; root_high = omega arith; letters = All-nil IsDigitLetter }
+
+pub root_is : codes "x1" ≡ word_text (root_word 1)
+root_is = ap (λ d. (codes "x" ++ d) ++ []) (sym (decimal_digit 1 (omega arith)))
+
 abbrev identity_row : Row
 identity_row = record { from = root_word 1; to = root_word 1 }
 
 identity_text : HasRowText identity_row
 identity_text = record { from = root_text; to = root_text }
-  where
-    root_text : HasText (root_word 1)
-    root_text = record { root_low = omega arith; root_high = omega arith; letters = All-nil IsDigitLetter }
 
 identity_is : codes "x1>x1" ≡ row_text identity_row
 identity_is = ap (λ d. (((codes "x" ++ d) ++ []) ++ codes ">") ++ ((codes "x" ++ d) ++ [])) (sym (decimal_digit 1 (omega arith)))

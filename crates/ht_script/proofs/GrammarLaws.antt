@@ -5,7 +5,7 @@ use Rattle.std.specs.List.{AllByRecursion}
 use Rattle.std.proofs.lemmas.List.Elements.{All-cons, All-nil, All-map, recursion_from_All}
 use Rattle.ht_word.specs.declared.word.Word.{Word}
 use Rattle.ht_pair.specs.declared.row.Row.{Row}
-use Rattle.ht_text.specs.Texts.{IsNum, IsRows, HasText, HasRowText, IsDigitLetter, letter_code, letters_text, word_text, row_text, rows_text}
+use Rattle.ht_text.specs.Texts.{IsNum, IsWord, IsRows, HasText, HasRowText, IsDigitLetter, letter_code, letters_text, word_text, row_text, rows_text}
 use Rattle.ht_text.proofs.Cuts.{IsFree, free_one, free_append}
 use Rattle.ht_text.proofs.Numbers.{form_of_num, num_free}
 use Rattle.ht_script.specs.Tokens.{Is, IsToken}
@@ -77,6 +77,9 @@ rows_begin (row ∷ next ∷ rows) some = (_, refl)
 -- rows begin with `x`
 pub rows_first : (t : List ℕ) (rows : List Row) → IsRows t rows → (rest : List ℕ) × (t ≡ 120 ∷ rest)
 rows_first t rows h = let first = rows_begin rows h.some in (first.0, h.is ∙ first.1)
+
+pub word_token : (t : List ℕ) (w : Word) → IsWord t w → IsToken t
+word_token t w h = subst IsToken (sym h.is) (record { some = omega arith; no_space = word_no_space w h.has_text })
 
 pub equals_token : (t : List ℕ) → Is (codes "=") t → IsToken t
 equals_token t e = subst IsToken (sym e) (record { some = omega arith; no_space = free_one 32 61 (λ r. absurd (omega arith)) })

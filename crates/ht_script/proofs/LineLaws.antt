@@ -5,15 +5,16 @@ use Rattle.std.specs.List.{AllByRecursion}
 use Rattle.std.proofs.lemmas.Bool.{cases_lt}
 use Rattle.std.proofs.lemmas.List.{drop_more, take_all, nil_from_length, length-take-le}
 use Rattle.std.proofs.lemmas.List.Elements.{recursion_from_All, All-from_recursion}
+use Rattle.ht_word.specs.declared.word.Word.{Word}
 use Rattle.ht_pair.specs.declared.row.Row.{Row}
-use Rattle.ht_text.specs.Fronts.{IsFront, IsLongestFront, IsRowsText}
+use Rattle.ht_text.specs.Fronts.{IsFront, IsLongestFront, IsWordText, IsRowsText}
 use Rattle.ht_script.specs.declared.command.Command.{Command}
 use Rattle.ht_script.specs.declared.command.Command.TheVariants as command
 use Rattle.ht_script.specs.declared.line.Line.{Line}
-use Rattle.ht_script.specs.declared.line.Line.TheVariants.{Blank, Group, Reduce, LetRows, LetProduct, Show, Equal}
+use Rattle.ht_script.specs.declared.line.Line.TheVariants.{Blank, Group, Reduce, LetRows, LetProduct, Show, Equal, Image}
 use Rattle.ht_script.specs.declared.ending.Ending.TheVariants as ending
 use Rattle.ht_script.specs.Tokens.{◌▸◌, Is, IsSpaces, IsToken, IsSpaced, IsSpan, IsFirstToken}
-use Rattle.ht_script.specs.Lines.{IsMarked, IsComment, IsNumber, AreRows, IsNamed, IsLine, IsNoLine, IsLineText}
+use Rattle.ht_script.specs.Lines.{IsMarked, IsComment, IsNumber, AreRows, IsNamed, IsWritten, IsLine, IsNoLine, IsLineText}
 use Rattle.ht_script.specs.Slots.{keyword, slots_of, ending_of, IsEnding, IsTaken, Completes, Reads, IsKeyword, IsUnmarked}
 use Rattle.ht_script.specs.Names.{IsName}
 use Rattle.ht_script.specs.Factors.{AreFactors}
@@ -57,8 +58,33 @@ rows_behind rest b = let rows = b.fits.0 in (rows.0, refit _ (λ t u. AreRows ro
 pub show_behind : (rest : List ℕ) → IsTaken command.Show rest → (name : List ℕ) × (IsNamed name ▸ IsSpaces) rest
 show_behind rest b = (b.token, refit _ (λ t u. IsNamed b.token t × IsSpaces u) rest b ((b.fits.0, refl), b.fits.1))
 
-pub equal_behind : (rest : List ℕ) → IsTaken command.Equal rest → (first : List ℕ) × (second : List ℕ) × (IsNamed first ▸ IsNamed second ▸ IsSpaces) rest
-equal_behind rest b = let last = show_behind b.rest b.fits.1 in (b.token, last.0, refit _ (λ t u. IsNamed b.token t × (IsNamed last.0 ▸ IsSpaces) u) rest b ((b.fits.0, refl), last.1))
+-- a name and behind it what R holds of
+pub first_named : (R : List ℕ → Type 0) (bytes : List ℕ) → (IsName ▸ R) bytes → (name : List ℕ) × (rest : List ℕ) × (IsNamed name ▸ Is rest) bytes × R rest
+first_named R bytes b = (b.token, b.rest, refit _ (λ t u. IsNamed b.token t × Is b.rest u) bytes b ((b.fits.0, refl), refl), b.fits.1)
+
+pub with_first : (R : List ℕ → Type 0) (name rest bytes : List ℕ) → (IsNamed name ▸ Is rest) bytes → R rest → (IsNamed name ▸ R) bytes
+with_first R name rest bytes b h = refit _ (λ t u. IsNamed name t × R u) bytes b (b.fits.0, subst R (sym b.fits.1) h)
+
+-- and R holds of it however it was found
+pub behind_first_name : (R : List ℕ → Type 0) (name rest bytes : List ℕ) → (IsNamed name ▸ Is rest) bytes → (IsName ▸ R) bytes → R rest
+behind_first_name R name rest bytes g h =
+    let names = both (IsNamed name) (Is rest) IsName R bytes (λ t k. name_token t k.0) name_token g h in
+    subst R names.behind_first names.behind_second
+
+pub word_behind : (rest : List ℕ) → (IsWordText ▸ IsSpaces) rest → (word : Word) × (IsWritten word ▸ IsSpaces) rest
+word_behind rest b = let word = b.fits.0 in (word.0, refit _ (λ t u. IsWritten word.0 t × IsSpaces u) rest b (word.1, b.fits.1))
+
+equal_behind : (rest : List ℕ) → IsTaken command.Equal rest → (first : List ℕ) × (second : List ℕ) × (IsNamed first ▸ IsNamed second ▸ IsSpaces) rest
+equal_behind rest b =
+    let v = first_named (IsTaken command.Show) rest b in
+    let last = show_behind v.1 v.3 in
+    (v.0, last.0, with_first (IsNamed last.0 ▸ IsSpaces) v.0 v.1 rest v.2 last.1)
+
+image_behind : (rest : List ℕ) → IsTaken command.Image rest → (name : List ℕ) × (word : Word) × (IsNamed name ▸ IsWritten word ▸ IsSpaces) rest
+image_behind rest b =
+    let v = first_named (IsWordText ▸ IsSpaces) rest b in
+    let last = word_behind v.1 v.3 in
+    (v.0, last.0, with_first (IsWritten last.0 ▸ IsSpaces) v.0 v.1 rest v.2 last.1)
 
 -- a name, `=` and behind it what R holds of
 pub named_behind : (R : List ℕ → Type 0) (bytes : List ℕ) → (IsName ▸ Is (codes "=") ▸ R) bytes → (name : List ℕ) × (rest : List ℕ) × (IsNamed name ▸ Is (codes "=") ▸ Is rest) bytes × R rest
@@ -96,6 +122,7 @@ taken_line command.Reduce rest b = let v = rows_behind rest b in (Reduce v.0, v.
 taken_line command.Let rest b = let_behind rest b
 taken_line command.Show rest b = let v = show_behind rest b in (Show v.0, v.1)
 taken_line command.Equal rest b = let v = equal_behind rest b in (Equal v.0 v.1, v.2)
+taken_line command.Image rest b = let v = image_behind rest b in (Image v.0 v.1, v.2)
 
 -- bytes of the command's word, and of what makes a line behind it, are the text of the line
 pub completed : (F : List ℕ → List ℕ → Type 0) (bytes : List ℕ) (s : IsSpaced F bytes) (c : Command) (line : Line) → s.token ≡ keyword c → Completes c line s.rest → IsLine bytes line
@@ -105,6 +132,7 @@ completed F bytes s command.Let (LetRows name rows) word h = refit F (λ t u. Is
 completed F bytes s command.Let (LetProduct name factors) word h = refit F (λ t u. Is (codes "let") t × (IsNamed name ▸ Is (codes "=") ▸ AreFactors factors) u) bytes s (word, h)
 completed F bytes s command.Show (Show name) word h = refit F (λ t u. Is (codes "show") t × (IsNamed name ▸ IsSpaces) u) bytes s (word, h)
 completed F bytes s command.Equal (Equal first second) word h = refit F (λ t u. Is (codes "equal") t × (IsNamed first ▸ IsNamed second ▸ IsSpaces) u) bytes s (word, h)
+completed F bytes s command.Image (Image name w) word h = refit F (λ t u. Is (codes "image") t × (IsNamed name ▸ IsWritten w ▸ IsSpaces) u) bytes s (word, h)
 completed F bytes s _ _ word h = absurd h
 
 -- the line of a command
@@ -123,6 +151,7 @@ command_for (LetRows name rows) = Some command.Let
 command_for (LetProduct name factors) = Some command.Let
 command_for (Show name) = Some command.Show
 command_for (Equal first second) = Some command.Equal
+command_for (Image name word) = Some command.Image
 
 -- bytes of a line, by its command
 abbrev pub Told : List ℕ → Option Command → Type 0
@@ -147,6 +176,9 @@ told (Show name) bytes h = refit _ _ bytes h (h.fits.0, refit _ _ h.rest h.fits.
 told (Equal first second) bytes h =
     let last = h.fits.1.fits.1 in
     refit _ _ bytes h (h.fits.0, refit _ _ h.rest h.fits.1 (h.fits.1.fits.0.0, refit _ _ h.fits.1.rest last (last.fits.0.0, last.fits.1)))
+told (Image name word) bytes h =
+    let last = h.fits.1.fits.1 in
+    refit _ _ bytes h (h.fits.0, refit _ _ h.rest h.fits.1 (h.fits.1.fits.0.0, refit _ _ h.fits.1.rest last ((word, last.fits.0), last.fits.1)))
 
 pub command_text : (bytes : List ℕ) (c : Command) → (Is (keyword c) ▸ IsTaken c) bytes → IsCommandText bytes
 command_text bytes c h = refit (λ t u. Is (keyword c) t × IsTaken c u) CommandFits bytes h (record { of = c; word = h.fits.0; behind = h.fits.1 })

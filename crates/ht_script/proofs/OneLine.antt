@@ -3,24 +3,25 @@ use Rattle.std.proofs.Common.{◌≡◌, ◌⊎◌, ℕ, inl, inr, List, [], ◌
 use Rattle.std.specs.Prelude.{codes}
 use Rattle.ht_pair.specs.declared.row.Row.{Row}
 use Rattle.ht_text.proofs.Numbers.{same_num}
+use Rattle.ht_text.proofs.WordTexts.{same_word}
 use Rattle.ht_text.proofs.RowTexts.{same_rows}
 use Rattle.ht_script.specs.declared.command.Command.{Command}
 use Rattle.ht_script.specs.declared.command.Command.TheVariants as command
 use Rattle.ht_script.specs.declared.line.Line.{Line}
-use Rattle.ht_script.specs.declared.line.Line.TheVariants.{Blank, Group, Reduce, LetRows, LetProduct, Show, Equal}
+use Rattle.ht_script.specs.declared.line.Line.TheVariants.{Blank, Group, Reduce, LetRows, LetProduct, Show, Equal, Image}
 use Rattle.ht_script.specs.declared.factor.Factor.{Factor}
 use Rattle.ht_script.specs.Factors.{IsFactor, AreListed, AreFactors}
 use Rattle.ht_script.specs.Tokens.{◌▸◌, Is, IsSpaces, IsToken}
-use Rattle.ht_script.specs.Lines.{IsComment, IsNumber, AreRows, IsNamed, IsLine}
+use Rattle.ht_script.specs.Lines.{IsComment, IsNumber, AreRows, IsNamed, IsWritten, IsLine}
 use Rattle.ht_script.specs.Slots.{keyword, IsTaken}
 use Rattle.ht_script.proofs.TokenLaws.{AreBoth, both, no_token, none_of}
-use Rattle.ht_script.proofs.GrammarLaws.{number_token, name_token, equals_token, rows_token, rows_first}
+use Rattle.ht_script.proofs.GrammarLaws.{number_token, name_token, equals_token, rows_token, rows_first, word_token}
 use Rattle.ht_script.proofs.FactorTexts.{factor_token, factor_first, same_listed}
 use Rattle.ht_script.proofs.CommandLaws.{keyword_token, same_command}
 use Rattle.ht_script.proofs.LineLaws.{CommandFits, IsCommandText, Told, told, command_for, command_tokens, command_text, unmarked_command}
 
-word_token : (c : Command) (t : List ℕ) → Is (keyword c) t → IsToken t
-word_token c t e = subst IsToken (sym e) (keyword_token c)
+keyword_is_token : (c : Command) (t : List ℕ) → Is (keyword c) t → IsToken t
+keyword_is_token c t e = subst IsToken (sym e) (keyword_token c)
 
 not_blank : (bytes : List ℕ) → IsSpaces bytes ⊎ IsComment bytes → ¬ IsCommandText bytes
 not_blank bytes (inl spaces) s = no_token CommandFits bytes command_tokens spaces s
@@ -32,12 +33,12 @@ one_command bytes None None g h = refl
 one_command bytes None (Some d) g h = absurd (not_blank bytes g (command_text bytes d h))
 one_command bytes (Some c) None g h = absurd (not_blank bytes h (command_text bytes c g))
 one_command bytes (Some c) (Some d) g h =
-    let words = both (Is (keyword c)) (IsTaken c) (Is (keyword d)) (IsTaken d) bytes (word_token c) (word_token d) g h in
+    let words = both (Is (keyword c)) (IsTaken c) (Is (keyword d)) (IsTaken d) bytes (keyword_is_token c) (keyword_is_token d) g h in
     ap Some (same_command c d (sym words.first ∙ words.second))
 
 -- the rest behind the word of a command
 behind_both : (c : Command) (R S : List ℕ → Type 0) (bytes : List ℕ) → (Is (keyword c) ▸ R) bytes → (Is (keyword c) ▸ S) bytes → AreBoth (Is (keyword c)) R (Is (keyword c)) S
-behind_both c R S bytes g h = both (Is (keyword c)) R (Is (keyword c)) S bytes (word_token c) (word_token c) g h
+behind_both c R S bytes g h = both (Is (keyword c)) R (Is (keyword c)) S bytes (keyword_is_token c) (keyword_is_token c) g h
 
 one_number : (m n : ℕ) (R S : List ℕ → Type 0) (bytes : List ℕ) → (IsNumber m ▸ R) bytes → (IsNumber n ▸ S) bytes → (m ≡ n) × AreBoth (IsNumber m) R (IsNumber n) S
 one_number m n R S bytes g h =
@@ -114,6 +115,13 @@ same_line bytes (Equal a b) (Equal a' b') e g h =
     let firsts = one_name a a' (IsNamed b ▸ IsSpaces) (IsNamed b' ▸ IsSpaces) rest.rest rest.behind_first rest.behind_second in
     let first_is = firsts.0 in
     let second_is = (one_name b b' IsSpaces IsSpaces firsts.1.rest firsts.1.behind_first firsts.1.behind_second).0 in
+    cc
+same_line bytes (Image a u) (Image b v) e g h =
+    let rest = behind_both command.Image (IsNamed a ▸ IsWritten u ▸ IsSpaces) (IsNamed b ▸ IsWritten v ▸ IsSpaces) bytes g h in
+    let names = one_name a b (IsWritten u ▸ IsSpaces) (IsWritten v ▸ IsSpaces) rest.rest rest.behind_first rest.behind_second in
+    let words = both (IsWritten u) IsSpaces (IsWritten v) IsSpaces names.1.rest (λ t k. word_token t u k) (λ t k. word_token t v k) names.1.behind_first names.1.behind_second in
+    let name_is = names.0 in
+    let word_is = same_word words.token u v words.first words.second in
     cc
 same_line bytes _ _ e g h = absurd cc
 

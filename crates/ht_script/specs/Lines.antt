@@ -5,14 +5,16 @@
 --     IsNumber n token       the token is the number n
 --     AreRows rows token     the token is the rows
 --     IsNamed name token     the token is the name
+--     IsWritten word token   the token is the word
 --     IsLine bytes line      the bytes are the text of the line
 --     IsNoLine bytes         the bytes are the text of no line
 --     IsLineText bytes       the bytes are the text of some line
 use Rattle.std.specs.Prelude.{◌≡◌, ◌≢◌, ◌⊎◌, ℕ, List, ◌∷◌, ◌++◌, All, codes}
+use Rattle.ht_word.specs.declared.word.Word.{Word}
 use Rattle.ht_pair.specs.declared.row.Row.{Row}
-use Rattle.ht_text.specs.Texts.{IsNum, IsRows}
+use Rattle.ht_text.specs.Texts.{IsNum, IsWord, IsRows}
 use Rattle.ht_script.specs.declared.line.Line.{Line}
-use Rattle.ht_script.specs.declared.line.Line.TheVariants.{Blank, Group, Reduce, LetRows, LetProduct, Show, Equal}
+use Rattle.ht_script.specs.declared.line.Line.TheVariants.{Blank, Group, Reduce, LetRows, LetProduct, Show, Equal, Image}
 use Rattle.ht_script.specs.Tokens.{IsSpaces, Is, ◌▸◌}
 use Rattle.ht_script.specs.Names.{IsName}
 use Rattle.ht_script.specs.Factors.{AreFactors}
@@ -36,6 +38,9 @@ AreRows rows token = IsRows token rows
 abbrev pub IsNamed : List ℕ → List ℕ → Type 0
 IsNamed name token = IsName token × (token ≡ name)
 
+abbrev pub IsWritten : Word → List ℕ → Type 0
+IsWritten word token = IsWord token word
+
 abbrev pub IsLine : List ℕ → Line → Type 0
 IsLine bytes Blank = IsSpaces bytes ⊎ IsComment bytes
 IsLine bytes (Group n r) = (Is (codes "group") ▸ IsNumber n ▸ IsNumber r ▸ IsSpaces) bytes
@@ -44,6 +49,7 @@ IsLine bytes (LetRows name rows) = (Is (codes "let") ▸ IsNamed name ▸ Is (co
 IsLine bytes (LetProduct name factors) = (Is (codes "let") ▸ IsNamed name ▸ Is (codes "=") ▸ AreFactors factors) bytes
 IsLine bytes (Show name) = (Is (codes "show") ▸ IsNamed name ▸ IsSpaces) bytes
 IsLine bytes (Equal first second) = (Is (codes "equal") ▸ IsNamed first ▸ IsNamed second ▸ IsSpaces) bytes
+IsLine bytes (Image name word) = (Is (codes "image") ▸ IsNamed name ▸ IsWritten word ▸ IsSpaces) bytes
 
 abbrev pub IsNoLine : List ℕ → Type 0
 IsNoLine bytes = (line : Line) → ¬ IsLine bytes line

@@ -6,7 +6,7 @@ ghost use Rattle.ht_script.specs.Slots.{keyword, slots_of, ending_of, IsSlot, Is
 use crate::ending::Ending;
 use crate::name::{is_name, name_front};
 use crate::token::{is_equals, shared_front};
-use ht_text::{num_front, read_num};
+use ht_text::{is_word, num_front, read_num, word_front};
 
 /// The first word of a line that isn't blank.
 #[derive(Clone, Copy, Debug, PartialEq, Eq)]
@@ -16,6 +16,7 @@ pub(crate) enum Command {
     Let,
     Show,
     Equal,
+    Image,
 }
 
 /// What a token behind the first word is.
@@ -24,15 +25,17 @@ pub(crate) enum Slot {
     Number,
     Name,
     Equals,
+    Word,
 }
 
 // Every command.
-const COMMANDS: [Command; 5] = [
+const COMMANDS: [Command; 6] = [
     Command::Group,
     Command::Reduce,
     Command::Let,
     Command::Show,
     Command::Equal,
+    Command::Image,
 ];
 
 impl Command {
@@ -46,6 +49,7 @@ impl Command {
             Command::Let => b"let",
             Command::Show => b"show",
             Command::Equal => b"equal",
+            Command::Image => b"image",
         }
     }
 
@@ -59,6 +63,7 @@ impl Command {
             Command::Let => &[Slot::Name, Slot::Equals],
             Command::Show => &[Slot::Name],
             Command::Equal => &[Slot::Name, Slot::Name],
+            Command::Image => &[Slot::Name, Slot::Word],
         }
     }
 
@@ -69,7 +74,7 @@ impl Command {
         match self {
             Command::Reduce => Ending::Rows,
             Command::Let => Ending::Value,
-            Command::Group | Command::Show | Command::Equal => Ending::Spaces,
+            Command::Group | Command::Show | Command::Equal | Command::Image => Ending::Spaces,
         }
     }
 
@@ -110,6 +115,7 @@ impl Slot {
             Slot::Number => read_num(token).is_some(),
             Slot::Name => is_name(token),
             Slot::Equals => is_equals(token),
+            Slot::Word => is_word(token),
         }
     }
 
@@ -122,6 +128,7 @@ impl Slot {
             Slot::Number => num_front(token),
             Slot::Name => name_front(token),
             Slot::Equals => shared_front(token, b"="),
+            Slot::Word => word_front(token),
         }
     }
 }

@@ -8,7 +8,7 @@ use crate::factor::Factors;
 use crate::front::line_front;
 use crate::value::read_value;
 use ht_pair::Rows;
-use ht_word::{Name, NoMemory};
+use ht_word::{Name, NoMemory, Word};
 use std::alloc::Global;
 use thiserror::Error;
 
@@ -29,6 +29,8 @@ pub enum Line {
     Show(Name),
     /// `equal` and two names.
     Equal(Name, Name),
+    /// `image`, a name and a word.
+    Image { name: Name, word: Word },
 }
 
 /// Why bytes give no line.

@@ -1,8 +1,9 @@
 //! The line that bytes are the text of.
 ghost use Rattle.std.specs.Prelude.{◌≡◌, ℕ, List, IfOk, MatchOption, codes};
+ghost use Rattle.ht_word.specs.declared.word.Word.{Word};
 ghost use Rattle.ht_pair.specs.declared.row.Row.{Row};
 ghost use Rattle.ht_script.specs.Tokens.{◌▸◌, Is, IsSpaces, IsToken};
-ghost use Rattle.ht_script.specs.Lines.{IsNumber, AreRows, IsNamed, IsLine, IsNoLine};
+ghost use Rattle.ht_script.specs.Lines.{IsNumber, AreRows, IsNamed, IsWritten, IsLine, IsNoLine};
 ghost use Rattle.ht_script.specs.Slots.{IsUnmarked, Reads};
 
 use crate::Line;
@@ -11,8 +12,8 @@ use crate::factor::read_factors;
 use crate::name::read_name;
 use crate::token::{behind_mark, count_before, first_token, is_equals, only_spaces};
 use ht_pair::Rows;
-use ht_text::{read_num, read_rows};
-use ht_word::{Name, NoMemory};
+use ht_text::{read_num, read_rows, read_word};
+use ht_word::{Name, NoMemory, Word};
 use std::alloc::Global;
 
 // The line that the bytes are the text of. At most twelve passes over them.
@@ -52,6 +53,7 @@ fn read_behind(alloc: Global, command: Command, bytes: &[u8]) -> Result<Option<L
         Command::Let => read_let(alloc, bytes),
         Command::Show => read_show(alloc, bytes),
         Command::Equal => read_equal(alloc, bytes),
+        Command::Image => read_image(alloc, bytes),
     }
 }
 
@@ -105,10 +107,26 @@ fn read_show(alloc: Global, bytes: &[u8]) -> Result<Option<Line>, NoMemory>
 fn read_equal(alloc: Global, bytes: &[u8]) -> Result<Option<Line>, NoMemory>
     ensures { IfOk result (Reads Command.Equal bytes.now) }
 {
-    let Some((first, second)) = read_two_names(alloc, bytes)? else {
+    let Some((first, rest)) = read_first_name(alloc, bytes)? else {
+        return Ok(None);
+    };
+    let Some(second) = read_last_name(alloc, rest)? else {
         return Ok(None);
     };
     Ok(Some(Line::Equal(first, second)))
+}
+
+// The line of `image` and the bytes behind it. Three passes over them.
+fn read_image(alloc: Global, bytes: &[u8]) -> Result<Option<Line>, NoMemory>
+    ensures { IfOk result (Reads Command.Image bytes.now) }
+{
+    let Some((name, rest)) = read_first_name(alloc, bytes)? else {
+        return Ok(None);
+    };
+    let Some(word) = read_last_word(alloc, rest)? else {
+        return Ok(None);
+    };
+    Ok(Some(Line::Image { name, word }))
 }
 
 // The one token that the bytes have. One pass over them.
@@ -167,22 +185,29 @@ fn read_last_name(alloc: Global, bytes: &[u8]) -> Result<Option<Name>, NoMemory>
     read_name(alloc, token)
 }
 
-// The two names that are the bytes. Three passes over the bytes.
-fn read_two_names(alloc: Global, bytes: &[u8]) -> Result<Option<(Name, Name)>, NoMemory>
+// The word that is the one token. Three passes over the bytes.
+fn read_last_word(alloc: Global, bytes: &[u8]) -> Result<Option<Word>, NoMemory>
     ensures { IfOk result (λ found. MatchOption found
-        ((first second : List ℕ) → ¬ (IsNamed first ▸ IsNamed second ▸ IsSpaces) bytes.now)
-        (λ p. (IsNamed p.0 ▸ IsNamed p.1 ▸ IsSpaces) bytes.now)) }
+        ((word : Word) → ¬ (IsWritten word ▸ IsSpaces) bytes.now) (λ word. (IsWritten word ▸ IsSpaces) bytes.now)) }
+{
+    let Some(token) = only_token(bytes) else {
+        return Ok(None);
+    };
+    read_word(alloc, token)
+}
+
+// The name that is the first token, and what is behind it. Two passes over the name.
+fn read_first_name(alloc: Global, bytes: &[u8]) -> Result<Option<(Name, &[u8])>, NoMemory>
+    ensures { IfOk result (λ found. MatchOption found
+        ((name rest : List ℕ) → ¬ (IsNamed name ▸ Is rest) bytes.now) (λ p. (IsNamed p.0 ▸ Is p.1.now) bytes.now)) }
 {
     let Some((_, token, rest)) = first_token(bytes) else {
         return Ok(None);
     };
-    let Some(first) = read_name(alloc, token)? else {
+    let Some(name) = read_name(alloc, token)? else {
         return Ok(None);
     };
-    let Some(second) = read_last_name(alloc, rest)? else {
-        return Ok(None);
-    };
-    Ok(Some((first, second)))
+    Ok(Some((name, rest)))
 }
 
 // The name and what is behind the `=` that follows it. Two passes over the name.

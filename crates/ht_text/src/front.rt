@@ -45,6 +45,20 @@ pub fn word_front(bytes: &[u8]) -> usize
     bytes.len()
 }
 
+/// Whether the bytes are the text of some word. One pass over them; takes no memory.
+pub fn is_word(bytes: &[u8]) -> bool
+    ensures { IsTrue result ↔ IsWordText bytes.now }
+{
+    let mut place = Place::Start;
+    for b in bytes {
+        let Some(next) = place.next(*b) else {
+            return false;
+        };
+        place = next;
+    }
+    place.is_whole()
+}
+
 /// The length of the longest front of the bytes that is a front of some text of rows. One pass over
 /// that front; takes no memory.
 pub fn rows_front(bytes: &[u8]) -> usize

@@ -30,7 +30,7 @@ mod word;
 pub use bytes::{after, cut};
 pub use fault::FileFault;
 pub use file::{read_file, write_file};
-pub use front::{is_rows, num_front, rows_front, word_front};
+pub use front::{is_rows, is_word, num_front, rows_front, word_front};
 pub use laws::{
     an_elements_file_is_read_back, files_are_one_value, number_texts_are_one_number,
     row_texts_are_one_list, word_texts_are_one_word,

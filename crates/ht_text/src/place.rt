@@ -40,7 +40,7 @@ impl Place {
     }
 
     // Whether a whole word has been read.
-    fn is_whole(self) -> bool
+    pub(crate) fn is_whole(self) -> bool
         ensures { IsTrue result ↔ Follows self [] }
     {
         matches!(self, Place::Root(_) | Place::Letters)
