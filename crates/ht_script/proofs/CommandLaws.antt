@@ -10,40 +10,41 @@ use Rattle.ht_word.specs.Words.{root_word}
 use Rattle.ht_script.specs.declared.command.Command.{Command}
 use Rattle.ht_script.specs.declared.command.Command.TheVariants as command
 use Rattle.ht_script.specs.declared.command.Slot.{Slot}
-use Rattle.ht_script.specs.declared.command.Slot.TheVariants.{Number, Name, Equals, Word}
+use Rattle.ht_script.specs.declared.command.Slot.TheVariants.{Number, Name, Equals, Word, File}
 use Rattle.ht_script.specs.declared.ending.Ending.{Ending}
 use Rattle.ht_script.specs.Tokens.{Is, IsToken, IsSpaced, IsApart}
 use Rattle.ht_script.specs.Slots.{keyword, IsSlot, IsEnding, IsBehind, IsKeyword}
 use Rattle.ht_script.proofs.TokenLaws.{AreTokens, spaced_before, one_spaced}
 use Rattle.ht_script.proofs.FrontLaws.{longest_same, front_map}
-use Rattle.ht_script.proofs.GrammarLaws.{number_token, name_token, equals_token, word_token}
-use Rattle.ht_script.proofs.NameLaws.{name_a}
+use Rattle.ht_script.proofs.GrammarLaws.{number_token, name_token, equals_token, word_token, file_token}
+use Rattle.ht_script.proofs.NameLaws.{name_a, file_a}
 use Rattle.ht_script.proofs.SpacedFronts.{Fits, TakesSpace}
 use Rattle.ht_script.proofs.EndingLaws.{root_text, root_is, ending_before, some_ending}
 
 -- every command
 abbrev pub commands : List Command
-commands = command.Group ∷ command.Reduce ∷ command.Let ∷ command.Show ∷ command.Equal ∷ command.Image ∷ []
+commands = command.Group ∷ command.Reduce ∷ command.Let ∷ command.Show ∷ command.Equal ∷ command.Image ∷ command.Load ∷ []
 
 -- the word of the command at a place
 abbrev pub word_at : ℕ → List ℕ
 word_at k = keyword (get_or commands k command.Group)
 
 -- where a command stands among all
-place_of : (c : Command) → (k : ℕ) × (k < 6) × (keyword c ≡ word_at k)
+place_of : (c : Command) → (k : ℕ) × (k < 7) × (keyword c ≡ word_at k)
 place_of command.Group = (0, omega arith, refl)
 place_of command.Reduce = (1, omega arith, refl)
 place_of command.Let = (2, omega arith, refl)
 place_of command.Show = (3, omega arith, refl)
 place_of command.Equal = (4, omega arith, refl)
 place_of command.Image = (5, omega arith, refl)
+place_of command.Load = (6, omega arith, refl)
 
 -- a test that two texts differ
 pub differs : (token word : List ℕ) (same : Bool) → same ≡ pointwise eqb token word → same ≡ false → token ≢ word
 differs token word same test is e = true≢false (sym ((bytes_decides token word).1 e) ∙ sym test ∙ is)
 
 -- a token that is the word of no command
-pub no_keyword : (token : List ℕ) (n : ℕ) → 6 ≤ n → ((k : ℕ) → k < n → token ≢ word_at k) → ¬ IsKeyword token
+pub no_keyword : (token : List ℕ) (n : ℕ) → 7 ≤ n → ((k : ℕ) → k < n → token ≢ word_at k) → ¬ IsKeyword token
 no_keyword token n all none h = let at = place_of h.0 in none at.0 (omega (arith, at.1)) (h.1 ∙ at.2)
 
 -- the longest front that the words of the first n commands have
@@ -81,7 +82,7 @@ longest_of_new token n most next h g more = longest_of_next token n most next ne
 pub longest_of_old : (token : List ℕ) (n most next : ℕ) → IsLongestOf token n most → IsLongestFront (Is (word_at n)) token next → next ≤ most → IsLongestOf token (n + 1) most
 longest_of_old token n most next h g less = longest_of_next token n most next most h g (omega arith) less (inl refl)
 
-pub longest_of_all : (token : List ℕ) (n most : ℕ) → 6 ≤ n → IsLongestOf token n most → IsLongestFront IsKeyword token most
+pub longest_of_all : (token : List ℕ) (n most : ℕ) → 7 ≤ n → IsLongestOf token n most → IsLongestFront IsKeyword token most
 longest_of_all token n most all h = record {
   within = h.within;
   front = h.front;
@@ -93,12 +94,14 @@ slot_token Number t h = number_token t h.0 h.1
 slot_token Name t h = name_token t h
 slot_token Equals t h = equals_token t h
 slot_token Word t h = word_token t h.0 h.1
+slot_token File t h = file_token t h
 
 -- each slot has some token
 some_slot : (slot : Slot) → (t : List ℕ) × IsSlot slot t
 some_slot Number = (codes "1", (1, record { small = omega arith; is = sym (decimal_digit 1 (omega arith)) }))
 some_slot Name = (codes "a", name_a)
 some_slot Equals = (codes "=", refl)
+some_slot File = (codes "a", file_a)
 some_slot Word = (codes "x1", (root_word 1, record { has_text = root_text; is = root_is }))
 
 -- a token of the slot, and behind it tokens of the slots and the ending
@@ -149,6 +152,7 @@ finds command.Let = refl
 finds command.Show = refl
 finds command.Equal = refl
 finds command.Image = refl
+finds command.Load = refl
 
 -- each command has a word of its own
 pub same_command : (c d : Command) → keyword c ≡ keyword d → c ≡ d
@@ -165,6 +169,7 @@ no_mark command.Let x y e = let same = head_of 108 35 (codes "et" ++ x) y e in o
 no_mark command.Show x y e = let same = head_of 115 35 (codes "how" ++ x) y e in omega arith
 no_mark command.Equal x y e = let same = head_of 101 35 (codes "qual" ++ x) y e in omega arith
 no_mark command.Image x y e = let same = head_of 105 35 (codes "mage" ++ x) y e in omega arith
+no_mark command.Load x y e = let same = head_of 108 35 (codes "oad" ++ x) y e in omega arith
 
 -- the word of a command is a token
 pub keyword_token : (c : Command) → IsToken (keyword c)
@@ -174,6 +179,7 @@ keyword_token command.Let = record { some = omega arith; no_space = All-from_rec
 keyword_token command.Show = record { some = omega arith; no_space = All-from_recursion (λ b. b ≢ 32) (keyword command.Show) (search rules) }
 keyword_token command.Equal = record { some = omega arith; no_space = All-from_recursion (λ b. b ≢ 32) (keyword command.Equal) (search rules) }
 keyword_token command.Image = record { some = omega arith; no_space = All-from_recursion (λ b. b ≢ 32) (keyword command.Image) (search rules) }
+keyword_token command.Load = record { some = omega arith; no_space = All-from_recursion (λ b. b ≢ 32) (keyword command.Load) (search rules) }
 
 -- without slots there is the ending
 pub longest_no_slots : (e : Ending) (slots : List Slot) (bytes : List ℕ) (k : ℕ) → length slots ≡ 0 → IsLongestFront (IsEnding e) bytes k → IsLongestFront (IsBehind e slots) bytes k

@@ -11,12 +11,12 @@ use Rattle.ht_text.specs.Fronts.{IsFront, IsLongestFront, IsWordText, IsRowsText
 use Rattle.ht_script.specs.declared.command.Command.{Command}
 use Rattle.ht_script.specs.declared.command.Command.TheVariants as command
 use Rattle.ht_script.specs.declared.line.Line.{Line}
-use Rattle.ht_script.specs.declared.line.Line.TheVariants.{Blank, Group, Reduce, LetRows, LetProduct, Show, Equal, Image}
+use Rattle.ht_script.specs.declared.line.Line.TheVariants.{Blank, Group, Reduce, LetRows, LetProduct, Show, Equal, Image, Load}
 use Rattle.ht_script.specs.declared.ending.Ending.TheVariants as ending
 use Rattle.ht_script.specs.Tokens.{◌▸◌, Is, IsSpaces, IsToken, IsSpaced, IsSpan, IsFirstToken}
-use Rattle.ht_script.specs.Lines.{IsMarked, IsComment, IsNumber, AreRows, IsNamed, IsWritten, IsLine, IsNoLine, IsLineText}
+use Rattle.ht_script.specs.Lines.{IsMarked, IsComment, IsNumber, AreRows, IsNamed, IsWritten, IsFileNamed, IsLine, IsNoLine, IsLineText}
 use Rattle.ht_script.specs.Slots.{keyword, slots_of, ending_of, IsEnding, IsTaken, Completes, Reads, IsKeyword, IsUnmarked}
-use Rattle.ht_script.specs.Names.{IsName}
+use Rattle.ht_script.specs.Names.{IsName, IsFile}
 use Rattle.ht_script.specs.Factors.{AreFactors}
 use Rattle.ht_script.proofs.TokenLaws.{spaces_left, AreTokens, BeginsToken, begins, strip, not_spaces, refit, first_fits, both}
 use Rattle.ht_script.proofs.GrammarLaws.{name_token, equals_token}
@@ -80,6 +80,15 @@ equal_behind rest b =
     let last = show_behind v.1 v.3 in
     (v.0, last.0, with_first (IsNamed last.0 ▸ IsSpaces) v.0 v.1 rest v.2 last.1)
 
+pub file_behind : (rest : List ℕ) → (IsFile ▸ IsSpaces) rest → (file : List ℕ) × (IsFileNamed file ▸ IsSpaces) rest
+file_behind rest b = (b.token, refit _ (λ t u. IsFileNamed b.token t × IsSpaces u) rest b ((b.fits.0, refl), b.fits.1))
+
+load_behind : (rest : List ℕ) → IsTaken command.Load rest → (name : List ℕ) × (file : List ℕ) × (IsNamed name ▸ IsFileNamed file ▸ IsSpaces) rest
+load_behind rest b =
+    let v = first_named (IsFile ▸ IsSpaces) rest b in
+    let last = file_behind v.1 v.3 in
+    (v.0, last.0, with_first (IsFileNamed last.0 ▸ IsSpaces) v.0 v.1 rest v.2 last.1)
+
 image_behind : (rest : List ℕ) → IsTaken command.Image rest → (name : List ℕ) × (word : Word) × (IsNamed name ▸ IsWritten word ▸ IsSpaces) rest
 image_behind rest b =
     let v = first_named (IsWordText ▸ IsSpaces) rest b in
@@ -123,6 +132,7 @@ taken_line command.Let rest b = let_behind rest b
 taken_line command.Show rest b = let v = show_behind rest b in (Show v.0, v.1)
 taken_line command.Equal rest b = let v = equal_behind rest b in (Equal v.0 v.1, v.2)
 taken_line command.Image rest b = let v = image_behind rest b in (Image v.0 v.1, v.2)
+taken_line command.Load rest b = let v = load_behind rest b in (Load v.0 v.1, v.2)
 
 -- bytes of the command's word, and of what makes a line behind it, are the text of the line
 pub completed : (F : List ℕ → List ℕ → Type 0) (bytes : List ℕ) (s : IsSpaced F bytes) (c : Command) (line : Line) → s.token ≡ keyword c → Completes c line s.rest → IsLine bytes line
@@ -133,6 +143,7 @@ completed F bytes s command.Let (LetProduct name factors) word h = refit F (λ t
 completed F bytes s command.Show (Show name) word h = refit F (λ t u. Is (codes "show") t × (IsNamed name ▸ IsSpaces) u) bytes s (word, h)
 completed F bytes s command.Equal (Equal first second) word h = refit F (λ t u. Is (codes "equal") t × (IsNamed first ▸ IsNamed second ▸ IsSpaces) u) bytes s (word, h)
 completed F bytes s command.Image (Image name w) word h = refit F (λ t u. Is (codes "image") t × (IsNamed name ▸ IsWritten w ▸ IsSpaces) u) bytes s (word, h)
+completed F bytes s command.Load (Load name file) word h = refit F (λ t u. Is (codes "load") t × (IsNamed name ▸ IsFileNamed file ▸ IsSpaces) u) bytes s (word, h)
 completed F bytes s _ _ word h = absurd h
 
 -- the line of a command
@@ -152,6 +163,7 @@ command_for (LetProduct name factors) = Some command.Let
 command_for (Show name) = Some command.Show
 command_for (Equal first second) = Some command.Equal
 command_for (Image name word) = Some command.Image
+command_for (Load name file) = Some command.Load
 
 -- bytes of a line, by its command
 abbrev pub Told : List ℕ → Option Command → Type 0
@@ -179,6 +191,9 @@ told (Equal first second) bytes h =
 told (Image name word) bytes h =
     let last = h.fits.1.fits.1 in
     refit _ _ bytes h (h.fits.0, refit _ _ h.rest h.fits.1 (h.fits.1.fits.0.0, refit _ _ h.fits.1.rest last ((word, last.fits.0), last.fits.1)))
+told (Load name file) bytes h =
+    let last = h.fits.1.fits.1 in
+    refit _ _ bytes h (h.fits.0, refit _ _ h.rest h.fits.1 (h.fits.1.fits.0.0, refit _ _ h.fits.1.rest last (last.fits.0.0, last.fits.1)))
 
 pub command_text : (bytes : List ℕ) (c : Command) → (Is (keyword c) ▸ IsTaken c) bytes → IsCommandText bytes
 command_text bytes c h = refit (λ t u. Is (keyword c) t × IsTaken c u) CommandFits bytes h (record { of = c; word = h.fits.0; behind = h.fits.1 })

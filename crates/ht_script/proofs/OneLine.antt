@@ -8,14 +8,14 @@ use Rattle.ht_text.proofs.RowTexts.{same_rows}
 use Rattle.ht_script.specs.declared.command.Command.{Command}
 use Rattle.ht_script.specs.declared.command.Command.TheVariants as command
 use Rattle.ht_script.specs.declared.line.Line.{Line}
-use Rattle.ht_script.specs.declared.line.Line.TheVariants.{Blank, Group, Reduce, LetRows, LetProduct, Show, Equal, Image}
+use Rattle.ht_script.specs.declared.line.Line.TheVariants.{Blank, Group, Reduce, LetRows, LetProduct, Show, Equal, Image, Load}
 use Rattle.ht_script.specs.declared.factor.Factor.{Factor}
 use Rattle.ht_script.specs.Factors.{IsFactor, AreListed, AreFactors}
 use Rattle.ht_script.specs.Tokens.{◌▸◌, Is, IsSpaces, IsToken}
-use Rattle.ht_script.specs.Lines.{IsComment, IsNumber, AreRows, IsNamed, IsWritten, IsLine}
+use Rattle.ht_script.specs.Lines.{IsComment, IsNumber, AreRows, IsNamed, IsWritten, IsFileNamed, IsLine}
 use Rattle.ht_script.specs.Slots.{keyword, IsTaken}
 use Rattle.ht_script.proofs.TokenLaws.{AreBoth, both, no_token, none_of}
-use Rattle.ht_script.proofs.GrammarLaws.{number_token, name_token, equals_token, rows_token, rows_first, word_token}
+use Rattle.ht_script.proofs.GrammarLaws.{number_token, name_token, equals_token, rows_token, rows_first, word_token, file_token}
 use Rattle.ht_script.proofs.FactorTexts.{factor_token, factor_first, same_listed}
 use Rattle.ht_script.proofs.CommandLaws.{keyword_token, same_command}
 use Rattle.ht_script.proofs.LineLaws.{CommandFits, IsCommandText, Told, told, command_for, command_tokens, command_text, unmarked_command}
@@ -122,6 +122,13 @@ same_line bytes (Image a u) (Image b v) e g h =
     let words = both (IsWritten u) IsSpaces (IsWritten v) IsSpaces names.1.rest (λ t k. word_token t u k) (λ t k. word_token t v k) names.1.behind_first names.1.behind_second in
     let name_is = names.0 in
     let word_is = same_word words.token u v words.first words.second in
+    cc
+same_line bytes (Load a u) (Load b v) e g h =
+    let rest = behind_both command.Load (IsNamed a ▸ IsFileNamed u ▸ IsSpaces) (IsNamed b ▸ IsFileNamed v ▸ IsSpaces) bytes g h in
+    let names = one_name a b (IsFileNamed u ▸ IsSpaces) (IsFileNamed v ▸ IsSpaces) rest.rest rest.behind_first rest.behind_second in
+    let files = both (IsFileNamed u) IsSpaces (IsFileNamed v) IsSpaces names.1.rest (λ t k. file_token t k.0) (λ t k. file_token t k.0) names.1.behind_first names.1.behind_second in
+    let name_is = names.0 in
+    let file_is = sym files.first.1 ∙ files.second.1 in
     cc
 same_line bytes _ _ e g h = absurd cc
 

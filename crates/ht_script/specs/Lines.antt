@@ -6,6 +6,7 @@
 --     AreRows rows token     the token is the rows
 --     IsNamed name token     the token is the name
 --     IsWritten word token   the token is the word
+--     IsFileNamed file token the token is the name of the file
 --     IsLine bytes line      the bytes are the text of the line
 --     IsNoLine bytes         the bytes are the text of no line
 --     IsLineText bytes       the bytes are the text of some line
@@ -14,9 +15,9 @@ use Rattle.ht_word.specs.declared.word.Word.{Word}
 use Rattle.ht_pair.specs.declared.row.Row.{Row}
 use Rattle.ht_text.specs.Texts.{IsNum, IsWord, IsRows}
 use Rattle.ht_script.specs.declared.line.Line.{Line}
-use Rattle.ht_script.specs.declared.line.Line.TheVariants.{Blank, Group, Reduce, LetRows, LetProduct, Show, Equal, Image}
+use Rattle.ht_script.specs.declared.line.Line.TheVariants.{Blank, Group, Reduce, LetRows, LetProduct, Show, Equal, Image, Load}
 use Rattle.ht_script.specs.Tokens.{IsSpaces, Is, ◌▸◌}
-use Rattle.ht_script.specs.Names.{IsName}
+use Rattle.ht_script.specs.Names.{IsName, IsFile}
 use Rattle.ht_script.specs.Factors.{AreFactors}
 
 pub record IsMarked (bytes text : List ℕ) : Type 0 where
@@ -41,6 +42,9 @@ IsNamed name token = IsName token × (token ≡ name)
 abbrev pub IsWritten : Word → List ℕ → Type 0
 IsWritten word token = IsWord token word
 
+abbrev pub IsFileNamed : List ℕ → List ℕ → Type 0
+IsFileNamed file token = IsFile token × (token ≡ file)
+
 abbrev pub IsLine : List ℕ → Line → Type 0
 IsLine bytes Blank = IsSpaces bytes ⊎ IsComment bytes
 IsLine bytes (Group n r) = (Is (codes "group") ▸ IsNumber n ▸ IsNumber r ▸ IsSpaces) bytes
@@ -50,6 +54,7 @@ IsLine bytes (LetProduct name factors) = (Is (codes "let") ▸ IsNamed name ▸ 
 IsLine bytes (Show name) = (Is (codes "show") ▸ IsNamed name ▸ IsSpaces) bytes
 IsLine bytes (Equal first second) = (Is (codes "equal") ▸ IsNamed first ▸ IsNamed second ▸ IsSpaces) bytes
 IsLine bytes (Image name word) = (Is (codes "image") ▸ IsNamed name ▸ IsWritten word ▸ IsSpaces) bytes
+IsLine bytes (Load name file) = (Is (codes "load") ▸ IsNamed name ▸ IsFileNamed file ▸ IsSpaces) bytes
 
 abbrev pub IsNoLine : List ℕ → Type 0
 IsNoLine bytes = (line : Line) → ¬ IsLine bytes line

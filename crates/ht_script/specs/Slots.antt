@@ -16,15 +16,15 @@ use Rattle.ht_text.specs.Fronts.{IsNumText, IsWordText, IsRowsText}
 use Rattle.ht_script.specs.declared.command.Command.{Command}
 use Rattle.ht_script.specs.declared.command.Command.TheVariants as command
 use Rattle.ht_script.specs.declared.command.Slot.{Slot}
-use Rattle.ht_script.specs.declared.command.Slot.TheVariants.{Number, Name, Equals, Word}
+use Rattle.ht_script.specs.declared.command.Slot.TheVariants.{Number, Name, Equals, Word, File}
 use Rattle.ht_script.specs.declared.ending.Ending.{Ending}
 use Rattle.ht_script.specs.declared.ending.Ending.TheVariants as ending
 use Rattle.ht_script.specs.declared.line.Line.{Line}
-use Rattle.ht_script.specs.declared.line.Line.TheVariants.{Group, Reduce, LetRows, LetProduct, Show, Equal, Image}
+use Rattle.ht_script.specs.declared.line.Line.TheVariants.{Group, Reduce, LetRows, LetProduct, Show, Equal, Image, Load}
 use Rattle.ht_script.specs.Tokens.{IsSpaces, Is, ◌▸◌}
-use Rattle.ht_script.specs.Names.{IsName}
+use Rattle.ht_script.specs.Names.{IsName, IsFile}
 use Rattle.ht_script.specs.Factors.{AreFactors, AreFactorsText}
-use Rattle.ht_script.specs.Lines.{IsMarked, IsNumber, AreRows, IsNamed, IsWritten}
+use Rattle.ht_script.specs.Lines.{IsMarked, IsNumber, AreRows, IsNamed, IsWritten, IsFileNamed}
 
 abbrev pub keyword : Command → List ℕ
 keyword command.Group = codes "group"
@@ -33,6 +33,7 @@ keyword command.Let = codes "let"
 keyword command.Show = codes "show"
 keyword command.Equal = codes "equal"
 keyword command.Image = codes "image"
+keyword command.Load = codes "load"
 
 abbrev pub slots_of : Command → List Slot
 slots_of command.Group = Number ∷ Number ∷ []
@@ -41,6 +42,7 @@ slots_of command.Let = Name ∷ Equals ∷ []
 slots_of command.Show = Name ∷ []
 slots_of command.Equal = Name ∷ Name ∷ []
 slots_of command.Image = Name ∷ Word ∷ []
+slots_of command.Load = Name ∷ File ∷ []
 
 abbrev pub ending_of : Command → Ending
 ending_of command.Group = ending.Spaces
@@ -49,12 +51,14 @@ ending_of command.Let = ending.Value
 ending_of command.Show = ending.Spaces
 ending_of command.Equal = ending.Spaces
 ending_of command.Image = ending.Spaces
+ending_of command.Load = ending.Spaces
 
 abbrev pub IsSlot : Slot → List ℕ → Type 0
 IsSlot Number token = IsNumText token
 IsSlot Name token = IsName token
 IsSlot Equals token = Is (codes "=") token
 IsSlot Word token = IsWordText token
+IsSlot File token = IsFile token
 
 abbrev pub IsEnding : Ending → List ℕ → Type 0
 IsEnding ending.Spaces bytes = IsSpaces bytes
@@ -76,6 +80,7 @@ Completes command.Let (LetProduct name factors) bytes = (IsNamed name ▸ Is (co
 Completes command.Show (Show name) bytes = (IsNamed name ▸ IsSpaces) bytes
 Completes command.Equal (Equal first second) bytes = (IsNamed first ▸ IsNamed second ▸ IsSpaces) bytes
 Completes command.Image (Image name word) bytes = (IsNamed name ▸ IsWritten word ▸ IsSpaces) bytes
+Completes command.Load (Load name file) bytes = (IsNamed name ▸ IsFileNamed file ▸ IsSpaces) bytes
 Completes _ _ bytes = ⊥
 
 abbrev pub Reads : Command → List ℕ → Option Line → Type 0

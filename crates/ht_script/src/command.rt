@@ -4,6 +4,7 @@ ghost use Rattle.ht_text.specs.Fronts.{IsLongestFront};
 ghost use Rattle.ht_script.specs.Slots.{keyword, slots_of, ending_of, IsSlot, IsKeyword};
 
 use crate::ending::Ending;
+use crate::file::{file_front, is_file};
 use crate::name::{is_name, name_front};
 use crate::token::{is_equals, shared_front};
 use ht_text::{is_word, num_front, read_num, word_front};
@@ -17,6 +18,7 @@ pub(crate) enum Command {
     Show,
     Equal,
     Image,
+    Load,
 }
 
 /// What a token behind the first word is.
@@ -26,16 +28,18 @@ pub(crate) enum Slot {
     Name,
     Equals,
     Word,
+    File,
 }
 
 // Every command.
-const COMMANDS: [Command; 6] = [
+const COMMANDS: [Command; 7] = [
     Command::Group,
     Command::Reduce,
     Command::Let,
     Command::Show,
     Command::Equal,
     Command::Image,
+    Command::Load,
 ];
 
 impl Command {
@@ -50,6 +54,7 @@ impl Command {
             Command::Show => b"show",
             Command::Equal => b"equal",
             Command::Image => b"image",
+            Command::Load => b"load",
         }
     }
 
@@ -64,6 +69,7 @@ impl Command {
             Command::Show => &[Slot::Name],
             Command::Equal => &[Slot::Name, Slot::Name],
             Command::Image => &[Slot::Name, Slot::Word],
+            Command::Load => &[Slot::Name, Slot::File],
         }
     }
 
@@ -74,7 +80,8 @@ impl Command {
         match self {
             Command::Reduce => Ending::Rows,
             Command::Let => Ending::Value,
-            Command::Group | Command::Show | Command::Equal | Command::Image => Ending::Spaces,
+            Command::Group | Command::Show | Command::Equal | Command::Image | Command::Load =>
+                Ending::Spaces,
         }
     }
 
@@ -116,6 +123,7 @@ impl Slot {
             Slot::Name => is_name(token),
             Slot::Equals => is_equals(token),
             Slot::Word => is_word(token),
+            Slot::File => is_file(token),
         }
     }
 
@@ -129,6 +137,7 @@ impl Slot {
             Slot::Name => name_front(token),
             Slot::Equals => shared_front(token, b"="),
             Slot::Word => word_front(token),
+            Slot::File => file_front(token),
         }
     }
 }

@@ -11,6 +11,7 @@
 //! - `ending`: how lines end behind their slots
 //! - `command`: the commands, and what stands behind the word of each
 //! - `name`: names of elements
+//! - `file`: names of files
 //! - `token`: tokens with spaces round them
 //! - `laws`: what the grammar is like
 #![tactic(auto)]
@@ -19,6 +20,7 @@ mod command;
 mod ending;
 mod exponent;
 mod factor;
+mod file;
 mod front;
 mod laws;
 mod line;

@@ -31,6 +31,8 @@ pub enum Line {
     Equal(Name, Name),
     /// `image`, a name and a word.
     Image { name: Name, word: Word },
+    /// `load`, a name and the name of a file.
+    Load { name: Name, file: Name },
 }
 
 /// Why bytes give no line.

@@ -3,12 +3,13 @@ ghost use Rattle.std.specs.Prelude.{◌≡◌, ℕ, List, IfOk, MatchOption, cod
 ghost use Rattle.ht_word.specs.declared.word.Word.{Word};
 ghost use Rattle.ht_pair.specs.declared.row.Row.{Row};
 ghost use Rattle.ht_script.specs.Tokens.{◌▸◌, Is, IsSpaces, IsToken};
-ghost use Rattle.ht_script.specs.Lines.{IsNumber, AreRows, IsNamed, IsWritten, IsLine, IsNoLine};
+ghost use Rattle.ht_script.specs.Lines.{IsNumber, AreRows, IsNamed, IsWritten, IsFileNamed, IsLine, IsNoLine};
 ghost use Rattle.ht_script.specs.Slots.{IsUnmarked, Reads};
 
 use crate::Line;
 use crate::command::Command;
 use crate::factor::read_factors;
+use crate::file::read_file;
 use crate::name::read_name;
 use crate::token::{behind_mark, count_before, first_token, is_equals, only_spaces};
 use ht_pair::Rows;
@@ -54,6 +55,7 @@ fn read_behind(alloc: Global, command: Command, bytes: &[u8]) -> Result<Option<L
         Command::Show => read_show(alloc, bytes),
         Command::Equal => read_equal(alloc, bytes),
         Command::Image => read_image(alloc, bytes),
+        Command::Load => read_load(alloc, bytes),
     }
 }
 
@@ -129,6 +131,19 @@ fn read_image(alloc: Global, bytes: &[u8]) -> Result<Option<Line>, NoMemory>
     Ok(Some(Line::Image { name, word }))
 }
 
+// The line of `load` and the bytes behind it. Three passes over them.
+fn read_load(alloc: Global, bytes: &[u8]) -> Result<Option<Line>, NoMemory>
+    ensures { IfOk result (Reads Command.Load bytes.now) }
+{
+    let Some((name, rest)) = read_first_name(alloc, bytes)? else {
+        return Ok(None);
+    };
+    let Some(file) = read_last_file(alloc, rest)? else {
+        return Ok(None);
+    };
+    Ok(Some(Line::Load { name, file }))
+}
+
 // The one token that the bytes have. One pass over them.
 fn only_token(bytes: &[u8]) -> Option<&[u8]>
     ensures { MatchOption result ((token : List ℕ) → IsToken token → ¬ (Is token ▸ IsSpaces) bytes.now)
@@ -194,6 +209,17 @@ fn read_last_word(alloc: Global, bytes: &[u8]) -> Result<Option<Word>, NoMemory>
         return Ok(None);
     };
     read_word(alloc, token)
+}
+
+// The file's name that is the one token. Two passes over the bytes.
+fn read_last_file(alloc: Global, bytes: &[u8]) -> Result<Option<Name>, NoMemory>
+    ensures { IfOk result (λ found. MatchOption found
+        ((file : List ℕ) → ¬ (IsFileNamed file ▸ IsSpaces) bytes.now) (λ file. (IsFileNamed file ▸ IsSpaces) bytes.now)) }
+{
+    let Some(token) = only_token(bytes) else {
+        return Ok(None);
+    };
+    read_file(alloc, token)
 }
 
 // The name that is the first token, and what is behind it. Two passes over the name.
