@@ -6,9 +6,10 @@
 //!
 //! - `traits`: sources, sinks, libraries and their faults
 //! - `memory_source`, `memory_sink`, `memory_library`: objects in memory, which fail where they are told to
-//! - `read_source`, `write_sink`: objects over a reader and a writer, the trusted edge
+//! - `read_source`, `write_sink`, `folder_library`: objects over a reader, a writer and the current folder, the trusted edge
 #![tactic(auto)]
 
+mod folder_library;
 mod memory_library;
 mod memory_sink;
 mod memory_source;
@@ -16,6 +17,7 @@ mod read_source;
 mod traits;
 mod write_sink;
 
+pub use folder_library::FolderLibrary;
 pub use memory_library::{Bytes, FileEntry, Files, MemLibrary};
 pub use memory_sink::MemSink;
 pub use memory_source::MemSource;
