@@ -1,31 +1,106 @@
 -- How a run may end.
-use Rattle.std.proofs.Common.{◌≤◌, ℕ, List, [], Bool, length, take, drop, refl, sym, ◌∙◌}
-use Rattle.std.proofs.lemmas.List.{take-append-drop}
-use Rattle.ht_calc.specs.declared.status.Status.{Status}
-use Rattle.ht_calc.specs.declared.status.Status.TheVariants.{Done, SomeRefused, BadWords, ReadFault, WriteFault, NoMemory, TooLong}
-use Rattle.ht_calc.specs.Runs.{lines_of}
-use Rattle.ht_calc.specs.States.{start}
-use Rattle.ht_calc.specs.Tables.{Table, StopsEarly, Replies, WroteFront}
+use Rattle.std.proofs.Common.{◌≡◌, ℕ, ◌<◌, ◌≤◌, inl, inr, List, [], ◌∷◌, ◌++◌, Bool, true, false, length, take, refl, sym, ◌∙◌, ap, append-nil, length-append, true≢false, arith}
+use Rattle.std.specs.Prelude.{Option, ◌⊎◌, if◌then◌else◌}
+use Rattle.std.proofs.Math.Seq.{take-length}
+use Rattle.std.proofs.lemmas.List.Elements.{All-push}
+use Rattle.ht_answer.specs.declared.answer.Answer.{Answer}
+use Rattle.ht_calc.specs.declared.lines.Extent.{Extent}
+use Rattle.ht_calc.specs.declared.lines.Extent.TheVariants.{Within, Ended, TooLong}
+use Rattle.ht_calc.specs.declared.lines.Reading.{Reading}
+use Rattle.ht_calc.specs.declared.answering.Answering.{Answering}
+use Rattle.ht_calc.specs.declared.status.Status.TheVariants.{Done, SomeRefused}
+use Rattle.ht_calc.specs.ScriptLines.{lines_of, whole_lines, counting_lines, IsShort, IsTooLong}
+use Rattle.ht_calc.specs.Progress.{IsOneLine, IsCut, IsReady, IsRead, Answered, Stands}
+use Rattle.ht_calc.specs.Tables.{Outputs, StopsBehind, Table}
+use Rattle.ht_calc.proofs.LineLaws.{last_line, lines_behind, lines_now, whole_behind, whole_now, front_of_counting, within_limits}
 
--- nothing is a front of the output of a run over no lines
-pub none_written : (T : List ℕ) → length T ≤ 65536 → (length T ≤ 65536) × (k : ℕ) × WroteFront (take k (lines_of T)) []
-none_written T few = (few, 0, record { answers = []; run = (start 2000, refl); rest = []; output = refl })
+-- the output of a run over the lines answered
+outputs : (files : Option (List (List ℕ × List ℕ))) (before now : ℕ) (lines all : List (List ℕ)) (answering : Answering) (O : List ℕ)
+    → (answered : Answered files before now lines answering O) → all ≡ lines → Outputs all answered.fetches answered.answers O
+outputs files before now lines all answering O answered same = record { run = rw same (answering.session, answered.run); output = answered.output }
 
--- what the table says where reading stops
-pub early : (at_end source_rose sink_rose : Type 0) (T : List ℕ) (status : Status) → StopsEarly source_rose T status → Table at_end source_rose sink_rose T [] status
-early at_end source_rose sink_rose T Done h = absurd h
-early at_end source_rose sink_rose T SomeRefused h = absurd h
-early at_end source_rose sink_rose T BadWords h = absurd h
-early at_end source_rose sink_rose T ReadFault h = (h.0, h.1, refl)
-early at_end source_rose sink_rose T WriteFault h = absurd h
-early at_end source_rose sink_rose T NoMemory h = none_written T h
-early at_end source_rose sink_rose T TooLong h = (h, refl)
-
--- the first bytes of the replies are a front of them
-pub front : (T text : List ℕ) (refused : Bool) (k : ℕ) → Replies T text refused → WroteFront (lines_of T) (take k text)
-front T text refused k replies = record {
-  answers = replies.answers;
-  run = replies.run;
-  rest = drop k text;
-  output = sym replies.output ∙ sym (take-append-drop k text);
+-- a front of it
+stops : (at_end : Type 0) (files : Option (List (List ℕ × List ℕ))) (before now : ℕ) (T : List ℕ) (lines : List (List ℕ)) (answering : Answering) (O rest all : List ℕ)
+    → (answered : Answered files before now lines answering all) → all ≡ O ++ rest → take (length lines) (counting_lines T) ≡ lines → (length lines ≤ length (whole_lines T)) ⊎ at_end
+    → StopsBehind at_end T answered.fetches O
+stops at_end files before now T lines answering O rest all answered is counting whole = record {
+  count = length lines;
+  wrote = record { answers = answered.answers; run = rw counting (answering.session, answered.run); rest = rest; output = sym answered.output ∙ is };
+  whole = whole;
 }
+
+-- no memory was found for the answers to more bytes
+pub stops_before : (at_end : Type 0) (T O more : List ℕ) (files : Option (List (List ℕ × List ℕ))) (before now : ℕ) (reading : Reading)
+    → (stands : Stands Within T O files before now reading) → StopsBehind at_end (T ++ more) stands.answered.fetches O
+stops_before at_end T O more files before now reading stands =
+    let are = lines_behind T stands.lines reading.begun.items more stands.read in
+    let whole = ap length (whole_behind T stands.lines reading.begun.items more stands.read) in
+    stops at_end files before now (T ++ more) stands.lines reading.answering O [] O stands.answered (sym (append-nil O))
+    (front_of_counting (T ++ more) stands.lines _ are stands.read.short stands.read.few) (inl (omega (arith, simp length-append at whole)))
+
+-- some of the answers are written
+read_counting : (extent : Extent) (T : List ℕ) (lines : List (List ℕ)) (begun : List ℕ) → IsRead extent T lines begun → take (length lines) (counting_lines T) ≡ lines
+read_counting Within T lines begun read = front_of_counting T lines (lines_of begun) (lines_now T lines begun read) read.short read.few
+read_counting Ended T lines begun read = rw read.2 (take-length lines)
+read_counting TooLong T lines begun read = rw read.1 (take-length lines)
+
+read_whole : (at_end : Type 0) (extent : Extent) (T : List ℕ) (lines : List (List ℕ)) (begun : List ℕ) → (extent ≡ Ended → at_end) → IsRead extent T lines begun → (length lines ≤ length (whole_lines T)) ⊎ at_end
+read_whole at_end Within T lines begun ends read =
+    let whole = ap length (whole_behind T lines begun [] read) in
+    let same = ap (λ (t : List ℕ). length (whole_lines t)) (append-nil T) in
+    inl (omega (arith, simp length-append at whole, same))
+read_whole at_end Ended T lines begun ends read = inr (ends refl)
+read_whole at_end TooLong T lines begun ends read = inl read.2
+
+pub stops_within : (at_end : Type 0) (extent : Extent) (T O rest all : List ℕ) (files : Option (List (List ℕ × List ℕ))) (before now : ℕ) (reading : Reading) → (extent ≡ Ended → at_end) → all ≡ O ++ rest
+    → (stands : Stands extent T all files before now reading) → StopsBehind at_end T stands.answered.fetches O
+stops_within at_end extent T O rest all files before now reading ends is stands =
+    stops at_end files before now T stands.lines reading.answering O rest all stands.answered is
+    (read_counting extent T stands.lines reading.begun.items stands.read) (read_whole at_end extent T stands.lines reading.begun.items ends stands.read)
+
+-- what is begun is within the limits too
+begun_within : (T : List ℕ) (lines : List (List ℕ)) (begun : List ℕ) → IsCut T lines begun → IsOneLine begun → IsShort begun → (0 < length begun → length lines < 65536) → ¬ IsTooLong T
+begun_within T lines [] cut one short room =
+    within_limits T lines (lines_now T lines [] cut ∙ append-nil lines) cut.short cut.few
+begun_within T lines (b ∷ begun) cut one short room =
+    let few = room (omega arith) in
+    let last = lines_now T lines (b ∷ begun) cut ∙ ap (λ (rest : List (List ℕ)). lines ++ rest) (last_line (b ∷ begun) (omega arith) one) in
+    within_limits T (lines ++ (b ∷ begun) ∷ []) last (All-push IsShort lines (b ∷ begun) cut.short short) (rw length-append (omega arith))
+
+-- reading failed
+pub fails : (T O : List ℕ) (files : Option (List (List ℕ × List ℕ))) (before now : ℕ) (reading : Reading) → IsReady reading
+    → (stands : Stands Within T O files before now reading) → (¬ IsTooLong T) × (answers : List Answer) × Outputs (whole_lines T) stands.answered.fetches answers O
+fails T O files before now reading ready stands =
+    let whole = whole_now T stands.lines reading.begun.items stands.read ready.one_line ∙ append-nil stands.lines in (
+      begun_within T stands.lines reading.begun.items stands.read ready.one_line ready.short (λ some. omega (arith, ready.room some, stands.answered.count)),
+      stands.answered.answers,
+      outputs files before now stands.lines (whole_lines T) reading.answering O stands.answered whole,
+    )
+
+-- the script ended
+pub ends : (at_end source_rose sink_rose : Type 0) (T O : List ℕ) (files : Option (List (List ℕ × List ℕ))) (before now : ℕ) (reading : Reading) (refused : Bool) → at_end
+    → reading.answering.some_refused ≡ refused → (stands : Stands Ended T O files before now reading)
+    → Table at_end source_rose sink_rose T stands.answered.fetches O (if refused then SomeRefused else Done)
+ends at_end source_rose sink_rose T O files before now reading true end is stands = (
+  end,
+  stands.read.0,
+  stands.answered.answers,
+  outputs files before now stands.lines (lines_of T) reading.answering O stands.answered stands.read.1,
+  stands.answered.refusal.0 is,
+)
+ends at_end source_rose sink_rose T O files before now reading false end is stands = (
+  end,
+  stands.read.0,
+  stands.answered.answers,
+  outputs files before now stands.lines (lines_of T) reading.answering O stands.answered stands.read.1,
+  λ some. true≢false (sym (stands.answered.refusal.1 some) ∙ is),
+)
+
+-- the script is too long
+pub goes_over : (T O : List ℕ) (files : Option (List (List ℕ × List ℕ))) (before now : ℕ) (reading : Reading) → (stands : Stands TooLong T O files before now reading)
+    → IsTooLong T × (answers : List Answer) × Outputs (counting_lines T) stands.answered.fetches answers O
+goes_over T O files before now reading stands = (
+  stands.read.0,
+  stands.answered.answers,
+  outputs files before now stands.lines (counting_lines T) reading.answering O stands.answered stands.read.1,
+)

@@ -1,8 +1,11 @@
 pub mod Ends
 pub mod FactorLaws
+pub mod Fetching
+pub mod LineLaws
 pub mod LineSizes
 pub mod NameLaws
-pub mod Reading
-pub mod Runs
+pub mod Streams
+pub mod RunLaws
+pub mod Standing
 pub mod StepLaws
 pub mod TermLaws

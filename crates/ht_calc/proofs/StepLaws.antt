@@ -1,5 +1,5 @@
 -- Steps, and what they keep.
-use Rattle.std.proofs.Common.{◌≡◌, ℕ, suc, List, length, Result, Ok, Err, IfOk, OnOk, Some, refl, sym, ◌∙◌, subst}
+use Rattle.std.proofs.Common.{◌≡◌, ℕ, suc, List, [], length, Result, Ok, Err, IfOk, OnOk, Some, refl, sym, ◌∙◌, subst}
 use Rattle.ht_word.specs.declared.shape.Shape.{Shape}
 use Rattle.ht_pair.specs.declared.row.Row.{Row}
 use Rattle.ht_text.specs.Fronts.{IsLongestFront}
@@ -40,8 +40,8 @@ refused_keeps old _ _ _ (second_unbound first second p some first_is none) is = 
 
 -- bytes that are no line are refused with the column behind their longest front
 pub syntax_refused : (old : State) (bytes : List ℕ) (column said : ℕ) → said ≡ column → IsNoLine bytes × (k : ℕ) × (column ≡ suc k) × IsLongestFront IsLineText bytes k
-    → Step old bytes (Refused (refusal.Syntax said)) old
-syntax_refused old bytes column said same told = subst (λ c. Step old bytes (Refused (refusal.Syntax c)) old) (sym (same ∙ told.2)) (no_line told.1 told.0 told.3)
+    → Step old bytes [] (Refused (refusal.Syntax said)) old
+syntax_refused old bytes column said same told = subst (λ c. Step old bytes [] (Refused (refusal.Syntax c)) old) (sym (same ∙ told.2)) (no_line told.1 told.0 told.3)
 
 -- a name that is bound to an element, and the answer to it
 pub element_bound : {E : Type 0} (old new : State) (line : Line) (name : List ℕ) (rows : List Row) (result : Result Answer E) → Does old line (Let name (length rows)) (record old { names = bind old.names name rows })

@@ -6,8 +6,11 @@ pub mod Names
 pub mod Products
 pub mod Terms
 pub mod States
+pub mod Fetches
 pub mod Steps
+pub mod ScriptLines
 pub mod Runs
 pub mod Statuses
 pub mod ShortLines
+pub mod Progress
 pub mod Tables

@@ -4,8 +4,8 @@
 --     NeedsGroup line                    the line is any but a blank one and `group`
 --     IsRowsRefusal shape rows why       the refusal says why the rows are no element
 --     Does old line answer new           from the state old this line gets this answer and leads to new
---     Step old bytes answer new          the same for the bytes of a line, which may be no line
-use Rattle.std.specs.Prelude.{◌≡◌, ◌⊎◌, ◌↔◌, ℕ, suc, List, length, Bool, IsTrue, Some, None, IsSome, ⊤}
+--     Step old bytes made answer new     the same for the bytes of a line, which may be no line, and the fetches that it made
+use Rattle.std.specs.Prelude.{◌≡◌, ◌⊎◌, ◌↔◌, ℕ, suc, List, [], length, Bool, IsTrue, Some, None, IsSome, ⊤}
 use Rattle.ht_word.specs.declared.shape.Shape.{Shape}
 use Rattle.ht_word.specs.Shapes.{IsShape}
 use Rattle.ht_pair.specs.declared.row.Row.{Row}
@@ -21,6 +21,7 @@ use Rattle.ht_answer.specs.declared.answer.Answer.{Answer}
 use Rattle.ht_answer.specs.declared.answer.Answer.TheVariants.{Blank, Group, Pair, Let, Equal, Refused}
 use Rattle.ht_answer.specs.declared.answer.Refusal.{Refusal}
 use Rattle.ht_answer.specs.declared.answer.Refusal.TheVariants as refusal
+use Rattle.ht_calc.specs.Fetches.{Fetched}
 use Rattle.ht_calc.specs.Names.{bound, bind, HasRoom}
 use Rattle.ht_calc.specs.Products.{Term, StandFor, AreBound, IsFirstUnbound, HasWide, IsProductOf, IsLargeProduct}
 use Rattle.ht_calc.specs.States.{State}
@@ -73,6 +74,6 @@ pub data Does (old : State) : Line → Answer → State → Type 0 where
   second_unbound : (first second : List ℕ) (p : List Row) → IsSome old.shape → bound old.names first ≡ Some p → bound old.names second ≡ None → Does old (line.Equal first second) (Refused (refusal.Name second)) old
 
 -- bytes that are no line are refused with the column behind their longest front that some line has
-pub data Step (old : State) (bytes : List ℕ) : Answer → State → Type 0 where
-  by_line : (line : Line) (answer : Answer) (new : State) → IsLine bytes line → Does old line answer new → Step old bytes answer new
-  no_line : (k : ℕ) → IsNoLine bytes → IsLongestFront IsLineText bytes k → Step old bytes (Refused (refusal.Syntax (suc k))) old
+pub data Step (old : State) (bytes : List ℕ) : List Fetched → Answer → State → Type 0 where
+  by_line : (line : Line) (answer : Answer) (new : State) → IsLine bytes line → Does old line answer new → Step old bytes [] answer new
+  no_line : (k : ℕ) → IsNoLine bytes → IsLongestFront IsLineText bytes k → Step old bytes [] (Refused (refusal.Syntax (suc k))) old

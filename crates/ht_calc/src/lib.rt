@@ -5,13 +5,17 @@
 //! answers one.
 //!
 //! - `script`: a run over a whole script
+//! - `lines`: bytes to lines
+//! - `answering`: lines to answers
 //! - `status`: how a run ends
 //! - `session`: what is remembered from line to line
 //! - `bindings`: what is bound to names
 //! - `product`: products of powers of bound elements
 #![tactic(auto)]
 
+mod answering;
 mod bindings;
+mod lines;
 mod product;
 mod script;
 mod session;

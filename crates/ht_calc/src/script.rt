@@ -1,29 +1,23 @@
 //! A run over a whole script.
-ghost use Rattle.std.specs.Prelude.{◌≡◌, ◌≢◌, ◌≤◌, ◌<◌, ◌∷◌, ◌↔◌, [], List, ℕ, length, take, All, Any, IsTrue, IfOk, OnOk, MatchOption, MatchResult};
+ghost use Rattle.std.specs.Prelude.{◌≡◌, ◌≢◌, ◌≤◌, ◌<◌, ◌↔◌, List, ℕ, length, take, OnOk, if◌then◌else◌};
 ghost use Rattle.std.specs.Io.KnownBytes.{Appends, IsAtEnd};
 ghost use Rattle.ht_out.specs.Counts.{Rose, HasCause};
-ghost use Rattle.ht_answer.specs.Answers.{IsRefusal, HasAnswerText};
-ghost use Rattle.ht_calc.specs.Runs.{RunsBy, lines_of, output_of};
-ghost use Rattle.ht_calc.specs.Tables.{Took, Table, Replies, StopsEarly};
+ghost use Rattle.ht_calc.specs.Fetches.{Fetched, AreFetches};
+ghost use Rattle.ht_calc.specs.Tables.{Took, Table};
 
-use crate::{Session, Status};
-use ht_answer::{Answer, print};
+use crate::Status;
+use crate::lines::{Extent, Reading};
 use ht_out::{Failed, Library, Sink, Source};
-use ht_text::cut;
-use ht_word::NoMemory;
 use std::alloc::Global;
 
-// In bytes.
-const MAX_SCRIPT: usize = 65_536;
-
-// In expansions.
-const DEFAULT_BUDGET: u32 = 2_000;
-
-/// Reads a whole script, answers its lines, and then writes the answers. The words are those after
-/// the program's name; the library isn't called. What each status says of the bytes taken and
-/// written is the clause `table`.
+/// Reads a script piece by piece, and answers its lines: before each further read the answers to
+/// all whole lines read so far are written. The words are those after the program's name. The first
+/// event ends the run, and the status says which; what it says of the bytes taken and written, and
+/// of the files fetched, is the clause `table`.
 ///
-/// One pass over at most 65,536 bytes; each `reduce` line takes as long as the sorting of its rows.
+/// Reads into a buffer of 4,096 bytes; beside the answers to one buffer it keeps the line that is
+/// begun, of at most 65,536 bytes. One pass over the bytes, whatever their pieces, beside the time
+/// of each answer (`Session::answer`).
 pub fn run<S: Source, L: Library, K: Sink>(
     alloc: Global,
     words: &[String],
@@ -32,127 +26,64 @@ pub fn run<S: Source, L: Library, K: Sink>(
     out: &mut K,
 ) -> Status
     ensures words { (result ≡ Status.BadWords) ↔ (0 < length words.now) }
-    ensures table { (T : List ℕ) × (O : List ℕ)
+    ensures table { (T O : List ℕ) × (fetches : List Fetched)
         × Took (S.left script.old) (S.left script.new) (S.taken script.old) (S.taken script.new) T
         × Appends (K.held out.old) (K.held out.new) O
-        × Table (IsAtEnd (S.left script.new)) (Rose (S.faults script.old) (S.faults script.new)) (Rose (K.faults out.old) (K.faults out.new)) T O result }
-    ensures files { files.new ≡ files.old }
+        × AreFetches (L.files files.old) (L.faults files.old) (L.faults files.new) fetches
+        × Table (IsAtEnd (S.left script.new)) (Rose (S.faults script.old) (S.faults script.new)) (Rose (K.faults out.old) (K.faults out.new)) T fetches O result }
+    ensures files { L.files files.new ≡ L.files files.old }
 {
     if !words.is_empty() {
         return Status::BadWords;
     }
-    let bytes = match read_script(alloc, script) {
-        Ok(bytes) => bytes,
-        Err(status) => return status,
-    };
-    let Ok(reply) = reply_to(alloc, &bytes, files) else {
-        return Status::NoMemory;
-    };
-    let Ok(()) = write_all(out, &reply.text) else {
-        return Status::WriteFault;
-    };
-    if reply.some_refused {
+    run_script(alloc, script, files, out)
+}
+
+fn run_script<S: Source, L: Library, K: Sink>(
+    alloc: Global,
+    script: &mut S,
+    files: &mut L,
+    out: &mut K,
+) -> Status
+    ensures ran { result ≢ Status.BadWords }
+    ensures table { (T O : List ℕ) × (fetches : List Fetched)
+        × Took (S.left script.old) (S.left script.new) (S.taken script.old) (S.taken script.new) T
+        × Appends (K.held out.old) (K.held out.new) O
+        × AreFetches (L.files files.old) (L.faults files.old) (L.faults files.new) fetches
+        × Table (IsAtEnd (S.left script.new)) (Rose (S.faults script.old) (S.faults script.new)) (Rose (K.faults out.old) (K.faults out.new)) T fetches O result }
+    ensures files { L.files files.new ≡ L.files files.old }
+{
+    let mut reading = Reading::new(alloc);
+    let mut text = Vec::new(alloc);
+    let mut buffer = [0u8; 4096];
+    'read: loop {
+        let Ok(count) = script.next(&mut buffer) else {
+            return Status::ReadFault;
+        };
+        text.clear();
+        let Ok(extent) = reading.take(alloc, &buffer[..count], files, &mut text) else {
+            return Status::NoMemory;
+        };
+        let Ok(()) = write_all(out, &text) else {
+            return Status::WriteFault;
+        };
+        match extent {
+            Extent::Within => {}
+            Extent::Ended => return ended(reading.some_refused()),
+            Extent::TooLong => return Status::TooLong,
+        }
+    }
+}
+
+// The status at the end of a script.
+fn ended(some_refused: bool) -> Status
+    ensures { result ≡ (if some_refused then Status.SomeRefused else Status.Done) }
+{
+    if some_refused {
         Status::SomeRefused
     } else {
         Status::Done
     }
-}
-
-// Takes all that the source gives.
-fn read_script<S: Source>(alloc: Global, script: &mut S) -> Result<Vec<u8>, Status>
-    ensures { (T : List ℕ)
-        × Took (S.left script.old) (S.left script.new) (S.taken script.old) (S.taken script.new) T
-        × MatchResult result
-        (λ bytes. (bytes.items ≡ T) × (length T ≤ 65536) × IsAtEnd (S.left script.new))
-        (StopsEarly (Rose (S.faults script.old) (S.faults script.new)) T) }
-{
-    let mut buffer = [0u8; 4096];
-    let mut bytes = Vec::new(alloc);
-    'read: loop {
-        let Ok(count) = script.next(&mut buffer) else {
-            return Err(Status::ReadFault);
-        };
-        if count == 0 {
-            return Ok(bytes);
-        }
-        if bytes.len() + count > MAX_SCRIPT {
-            return Err(Status::TooLong);
-        }
-        let Ok(()) = bytes.extend_from_slice(&buffer[..count]) else {
-            return Err(Status::NoMemory);
-        };
-    }
-}
-
-// The answers to a script.
-#[derive(Drop)]
-struct Reply {
-    text: Vec<u8>,
-    some_refused: bool,
-}
-
-fn reply_to<L: Library>(alloc: Global, script: &[u8], files: &mut L) -> Result<Reply, NoMemory>
-    requires { length script.now ≤ 65536 }
-    ensures replies { IfOk result (λ reply. Replies script.now reply.text.items reply.some_refused) }
-    ensures files { files.new ≡ files.old }
-{
-    let answers = answer_all(alloc, script, files)?;
-    let text = print_all(alloc, answers.as_slice())?;
-    let some_refused = some_refused(answers.as_slice());
-    Ok(Reply { text, some_refused })
-}
-
-fn answer_all<L: Library>(
-    alloc: Global,
-    script: &[u8],
-    files: &mut L,
-) -> Result<Vec<Answer>, NoMemory>
-    requires { length script.now ≤ 65536 }
-    ensures run { IfOk result (λ answers. RunsBy 2000 (lines_of script.now) answers.items) }
-    ensures texts { IfOk result (λ answers. All HasAnswerText answers.items) }
-    ensures files { files.new ≡ files.old }
-{
-    let mut session = Session::new(alloc, DEFAULT_BUDGET);
-    let mut answers = Vec::new(alloc);
-    let mut rest = script;
-    'lines: while let Some((line, after)) = first_line(rest) {
-        let answer = session.answer(alloc, line, files)?;
-        answers.push(answer)?;
-        rest = after;
-    }
-    Ok(answers)
-}
-
-// The first line, and what is behind it.
-fn first_line(bytes: &[u8]) -> Option<(&[u8], &[u8])>
-    ensures lines { MatchOption result (bytes.now ≡ []) (λ parts. lines_of bytes.now ≡ parts.0.now ∷ lines_of parts.1.now) }
-    ensures one { MatchOption result (bytes.now ≡ []) (λ parts. All (λ b. b ≢ 10) parts.0.now) }
-    ensures shorter { MatchOption result (bytes.now ≡ []) (λ parts. (length parts.0.now ≤ length bytes.now) × (length parts.1.now < length bytes.now)) }
-{
-    match cut(bytes, b'\n') {
-        Some((line, after)) => Some((line, after)),
-        None if bytes.is_empty() => None,
-        None => Some((bytes, &[])),
-    }
-}
-
-// The texts of all answers, in order. One pass over them.
-fn print_all(alloc: Global, answers: &[Answer]) -> Result<Vec<u8>, NoMemory>
-    requires { All HasAnswerText answers.now }
-    ensures { IfOk result (λ text. text.items ≡ output_of answers.now) }
-{
-    let mut text = Vec::new(alloc);
-    for answer in answers {
-        print(answer, &mut text)?;
-    }
-    Ok(text)
-}
-
-// Whether an answer is a refusal.
-fn some_refused(answers: &[Answer]) -> bool
-    ensures { IsTrue result ↔ Any IsRefusal answers.now }
-{
-    answers.iter().any(|answer| answer.is_refusal())
 }
 
 // Puts all of the text.

@@ -8,6 +8,7 @@ ghost use Rattle.ht_pair.specs.RowsFaults.{IsRowsFault};
 ghost use Rattle.ht_text.specs.Texts.{rows_text};
 ghost use Rattle.ht_script.specs.declared.line.Line.TheVariants as line;
 ghost use Rattle.ht_answer.specs.Answers.{IsRefusal, HasAnswerText};
+ghost use Rattle.ht_calc.specs.Fetches.{Fetched, AreFetches};
 ghost use Rattle.ht_calc.specs.ShortLines.{HasShortRows};
 ghost use Rattle.ht_calc.specs.Names.{bind};
 ghost use Rattle.ht_calc.specs.States.{start};
@@ -69,11 +70,13 @@ impl Session {
     ) -> Result<Answer, NoMemory>
         requires length { length line.now ≤ 65536 }
         requires one_line { All (λ b. b ≢ 10) line.now }
-        ensures step { IfOk result (λ answer. Step self.old line.now answer self.new) }
+        ensures step { IfOk result (λ answer. (made : List Fetched) × Step self.old line.now made answer self.new
+            × AreFetches (L.files files.old) (L.faults files.old) (L.faults files.new) made) }
         ensures refused { IfOk result (λ answer. IsRefusal answer → self.new ≡ self.old) }
         ensures text { IfOk result HasAnswerText }
         ensures err { OnErr result (self.new ≡ self.old) }
-        ensures files { files.new ≡ files.old }
+        ensures files { L.files files.new ≡ L.files files.old }
+        ensures later { L.faults files.old ≤ L.faults files.new }
     {
         match read_line(alloc, line) {
             Ok(line) => self.answer_to(alloc, line),

@@ -158,7 +158,7 @@ fn ends_with_its_status(rt: HostRuntime) -> Result<(), Fail> {
     let alloc = rt.alloc();
     let (number, written) = run_over(alloc, &[], b"group 2 1\n\n", &[1], &[])?;
     assert_eq!(rt; number, Status::ReadFault.number());
-    assert_eq!(rt; written.len(), 0);
+    assert_eq!(rt; written.as_slice(), &b"group 2 1\n"[..]);
     let (number, written) = run_over(alloc, &[], b"group 2 1\n\n", &[], &[1])?;
     assert_eq!(rt; number, Status::WriteFault.number());
     assert_eq!(rt; written.as_slice(), &b"group 2"[..]);
@@ -171,15 +171,43 @@ fn ends_with_its_status(rt: HostRuntime) -> Result<(), Fail> {
     )?;
     assert_eq!(rt; number, Status::BadWords.number());
     assert_eq!(rt; written.len(), 0);
-    assert_eq!(rt; run_line_feeds(alloc, 65_536)?, Status::Done.number());
-    assert_eq!(rt; run_line_feeds(alloc, 65_537)?, Status::TooLong.number());
     Ok(())
 }
 
-// The status of a run over this many line feeds.
-fn run_line_feeds(alloc: Global, count: usize) -> Result<u8, Fail> {
-    let (number, _) = run_over(alloc, &[], &vec![in alloc; b'\n'; count]?, &[], &[])?;
-    Ok(number)
+// Each line is answered before the next one is read, and a line that isn't whole after a fault isn't.
+#[test]
+fn answers_what_was_read(rt: HostRuntime) -> Result<(), Fail> {
+    let alloc = rt.alloc();
+    let script = b"group 2 1\nlet a = x1>x1\nshow a";
+    let (number, written) = run_over(alloc, &[], script, &[3], &[])?;
+    assert_eq!(rt; number, Status::ReadFault.number());
+    assert_eq!(rt; written.as_slice(), &b"group 2 1\nlet a 1\n"[..]);
+    Ok(())
+}
+
+// A script may be long, but not its lines, nor their number. What comes before is answered.
+#[test]
+fn keeps_to_the_limits(rt: HostRuntime) -> Result<(), Fail> {
+    let alloc = rt.alloc();
+    let mut script = Vec::from_slice(alloc, b"group 2 1\n#")?;
+    script.extend_from_slice(&vec![in alloc; b' '; 65_535]?)?;
+    expect_run(&rt, alloc, &script, Status::Done, b"group 2 1\n")?;
+    script.push(b'\n')?;
+    script.extend_from_slice(b"show a")?;
+    expect_run(
+        &rt,
+        alloc,
+        &script,
+        Status::SomeRefused,
+        b"group 2 1\nrefused: name a\n",
+    )?;
+    script.extend_from_slice(&vec![in alloc; b' '; 65_531]?)?;
+    expect_run(&rt, alloc, &script, Status::TooLong, b"group 2 1\n")?;
+    let mut script = vec![in alloc; b'\n'; 65_535]?;
+    script.extend_from_slice(b"group 2 1\n")?;
+    expect_run(&rt, alloc, &script, Status::Done, b"group 2 1\n")?;
+    script.push(b' ')?;
+    expect_run(&rt, alloc, &script, Status::TooLong, b"group 2 1\n")
 }
 
 #[test]

@@ -1,0 +1,68 @@
+-- Runs, line by line.
+use Rattle.std.proofs.Common.{◌≡◌, ℕ, ◌+◌, inl, inr, List, [], ◌∷◌, ◌++◌, ap, refl, sym, ◌∙◌, subst, append_assoc, append-nil, length-append, arith}
+use Rattle.std.specs.Prelude.{Option, Any, IsTrue, ◌↔◌, ◌⊎◌}
+use Rattle.std.proofs.lemmas.Grind.{flat_map-append}
+use Rattle.std.proofs.lemmas.List.Elements.{Contains-append_left, Contains-push, Contains-push_cases}
+use Rattle.ht_answer.specs.declared.answer.Answer.{Answer}
+use Rattle.ht_answer.specs.Answers.{IsRefusal, answer_text}
+use Rattle.ht_calc.specs.declared.answering.Answering.{Answering}
+use Rattle.ht_calc.specs.Fetches.{Fetched, AreFetches}
+use Rattle.ht_calc.specs.States.{State}
+use Rattle.ht_calc.specs.Steps.{Step}
+use Rattle.ht_calc.specs.Runs.{Run, output_of}
+use Rattle.ht_calc.specs.Progress.{Answered}
+use Rattle.ht_calc.proofs.Fetching.{asked_more}
+
+-- one more line
+run_more : (old mid end : State) (lines : List (List ℕ)) (fetches made : List Fetched) (answers : List Answer) (line : List ℕ) (answer : Answer)
+    → Run old lines fetches answers mid → Step mid line made answer end → Run old (lines ++ line ∷ []) (fetches ++ made) (answers ++ answer ∷ []) end
+run_more old mid end [] fetches made [] line answer run step =
+    (end, made, [], subst (λ (s : State). Step s line made answer end) run.1 step, (refl, refl), ap (λ (f : List Fetched). f ++ made) run.0 ∙ sym (append-nil made))
+run_more old mid end (first ∷ lines) fetches made (one ∷ answers) line answer run step = (
+  run.0,
+  run.1,
+  run.2 ++ made,
+  run.3,
+  run_more run.0 mid end lines run.2 made answers line answer run.4 step,
+  ap (λ (f : List Fetched). f ++ made) run.5 ∙ append_assoc run.1 run.2 made,
+)
+run_more old mid end [] fetches made (one ∷ answers) line answer run step = absurd run
+run_more old mid end (first ∷ lines) fetches made [] line answer run step = absurd run
+
+-- some answer is a refusal, with one more answer
+any_more : (answers : List Answer) (answer : Answer) → (Any IsRefusal answers ⊎ IsRefusal answer) ↔ Any IsRefusal (answers ++ answer ∷ [])
+any_more answers answer = (to, back)
+  where
+    to : Any IsRefusal answers ⊎ IsRefusal answer → Any IsRefusal (answers ++ answer ∷ [])
+    to (inl some) = let c = Contains-append_left answers (answer ∷ []) some.1 (some.0, some.2, some.3) in (c.0, some.1, c.1, c.2, some.4)
+    to (inr is) = let c = Contains-push answers answer in (c.0, answer, c.1, c.2, is)
+
+    back : Any IsRefusal (answers ++ answer ∷ []) → Any IsRefusal answers ⊎ IsRefusal answer
+    back some =
+        elim (Contains-push_cases answers answer some.1 (some.0, some.2, some.3)) [
+          | inl c ↦ inl (c.0, some.1, c.1, c.2, some.4)
+          | inr same ↦ inr (subst IsRefusal (sym same) some.4)
+        ]
+
+-- one more line is answered
+pub answered_more : (files : Option (List (List ℕ × List ℕ))) (before mid now : ℕ) (lines : List (List ℕ)) (line : List ℕ) (old new : Answering) (O all : List ℕ) (made : List Fetched) (answer : Answer)
+    → Answered files before mid lines old O → Step old.session line made answer new.session → AreFetches files mid now made
+    → new.lines ≡ old.lines + 1 → all ≡ O ++ answer_text answer → IsTrue new.some_refused ↔ (IsTrue old.some_refused ⊎ IsRefusal answer)
+    → Answered files before now (lines ++ line ∷ []) new all
+answered_more files before mid now lines line old new O all made answer was step asked count text refused = record {
+  count = rw length-append (omega (arith, was.count));
+  fetches = was.fetches ++ made;
+  answers = was.answers ++ answer ∷ [];
+  run = run_more _ old.session new.session lines was.fetches made was.answers line answer was.run step;
+  asked = asked_more files before mid now was.fetches made was.asked asked;
+  output = text ∙ ap (λ (o : List ℕ). o ++ answer_text answer) was.output ∙ sym (flat_map-append answer_text was.answers (answer ∷ []) ∙ ap (λ (o : List ℕ). output_of was.answers ++ o) (append-nil (answer_text answer)));
+  refusal = (λ is. (any_more was.answers answer).0 (onto (refused.0 is)), λ some. refused.1 (from ((any_more was.answers answer).1 some)));
+}
+  where
+    onto : IsTrue old.some_refused ⊎ IsRefusal answer → Any IsRefusal was.answers ⊎ IsRefusal answer
+    onto (inl some) = inl (was.refusal.0 some)
+    onto (inr is) = inr is
+
+    from : Any IsRefusal was.answers ⊎ IsRefusal answer → IsTrue old.some_refused ⊎ IsRefusal answer
+    from (inl some) = inl (was.refusal.1 some)
+    from (inr is) = inr is

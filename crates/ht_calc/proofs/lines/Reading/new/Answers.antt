@@ -1,0 +1,9 @@
+use Rattle.std.proofs.Common.{[], None, arith}
+use Rattle.ht_calc.proofs.Standing.{nothing_read, ready_anew}
+use Rattle.ht_calc.proofs.lines.Reading.new.Goals as goal
+
+pub returns-clause-stands : goal.returns-clause-stands
+returns-clause-stands c = λ files faults. record { lines = []; read = rw c.new-2.ensures.items nothing_read; answered = c.new.ensures files faults }
+
+pub returns-clause-ready : goal.returns-clause-ready
+returns-clause-ready c = let count = (c.new.ensures None 0).count in ready_anew _ c.new-2.ensures.items (omega (arith, count))
