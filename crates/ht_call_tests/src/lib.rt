@@ -2,9 +2,15 @@
 //!
 //! - `memory`: calls succeed where there is memory
 //! - `limits`: elements of the greatest size, and just past it
-//! - `operations`: products and inverses
+//! - `operations`: products, inverses and powers
+//! - `files`: element files
+//! - `bases`: bases, and quasinormal bases
 #![tactic(auto)]
 
+#[cfg(test)]
+mod bases;
+#[cfg(test)]
+mod files;
 #[cfg(test)]
 mod limits;
 #[cfg(test)]
