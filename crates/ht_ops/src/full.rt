@@ -1,5 +1,5 @@
 //! The product of two pairs that moves all that it can.
-ghost use Rattle.std.specs.Prelude.{List, IfOk};
+ghost use Rattle.std.specs.Prelude.{IfOk};
 ghost use Rattle.ht_word.specs.Words.{IsAscending};
 ghost use Rattle.ht_pair.specs.Pairs.{IsPair, from_words};
 ghost use Rattle.ht_ops.specs.Blocks.{IsFullProduct};

@@ -2,7 +2,7 @@
 use Rattle.std.proofs.Common.{◌≡◌, ℕ, zero, suc, ◌+◌, ◌<◌, inl, inr, Bool, true, false, List, [], ◌∷◌, ◌++◌, length, take, drop, Some, slice_get, Result, Ok, Err, OnOk, OnErr, sym, ap, ◌∙◌, subst, arith, AllPairs, append_assoc, take-append-drop, drop-cons, add-one}
 use Rattle.std.proofs.lemmas.Result.{on_ok_weaker}
 use Rattle.std.proofs.lemmas.Option.{slice_get_within, get_or_from_slice_get}
-use Rattle.std.proofs.lemmas.List.Elements.{All-nil, All-contains}
+use Rattle.std.proofs.lemmas.List.Elements.{All-nil, All-contains, Contains-append_cases}
 use Rattle.std.proofs.lemmas.List.{map-id}
 use Rattle.std.proofs.lemmas.Iterator.{items_from_drains}
 use Rattle.std.proofs.lemmas.Iterator.Adapters.{YieldsList-from_vec}
@@ -15,7 +15,6 @@ use Rattle.ht_word.specs.declared.shape.Shape.{Shape}
 use Rattle.ht_word.specs.Words.{◌·◌, child, IsUnder}
 use Rattle.ht_word.proofs.WordLaws.{under_refl}
 use Rattle.ht_word.proofs.ListLaws.{Contains-nil, Contains-here, Contains-there, Contains-cons_cases, AllPairs-nil, AllPairs-cons, AllPairs-head, AllPairs-tail, AllPairs-append, AllPairs-left, AllPairs-right, AllPairs-across}
-use Rattle.std.proofs.lemmas.List.Elements.{Contains-append_cases}
 use Rattle.ht_pair.specs.Bases.{roots}
 use Rattle.ht_pair.specs.HeldBases.{BasisValue, IsHeldBasis, children, expanded_at, IsExpandedAt}
 use Rattle.ht_pair.proofs.BasisLaws.{roots_basis, basis_expanded, children_to, child_of, child_under}

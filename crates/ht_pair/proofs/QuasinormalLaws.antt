@@ -36,7 +36,7 @@ quasinormal_exists shape p pair reduced =
     (V.0, ordered_quasinormal shape p W.0 V.0 V.1 W.1)
 
 -- two bases that are under one another have the same words
-both_under : (shape : Shape) (X W : List Word) → IsBasis shape X → IsAllUnder X W → IsAllUnder W X → (x : Word) → Contains X x → Contains W x
+pub both_under : (shape : Shape) (X W : List Word) → IsBasis shape X → IsAllUnder X W → IsAllUnder W X → (x : Word) → Contains X x → Contains W x
 both_under shape X W basis up down x c =
     let s = All-contains (λ t. IsUnderSome t W) X x up c in
     let t = All-contains (λ t. IsUnderSome t X) W s.above down s.listed in

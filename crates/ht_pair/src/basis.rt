@@ -1,9 +1,8 @@
 //! Bases in ascending order.
 ghost use Rattle.std.specs.Prelude.{◌≡◌, ◌+◌, ◌<◌, [], ◌∷◌, ◌++◌, length, take, drop, IfOk, OnOk, OnErr, MatchOption};
-ghost use Rattle.ht_word.specs.Words.{IsUnderSome, child};
+ghost use Rattle.ht_word.specs.Words.{IsUnderSome};
 ghost use Rattle.ht_pair.specs.Bases.{roots};
-ghost use Rattle.ht_pair.specs.Merges.{each_to};
-ghost use Rattle.ht_pair.specs.HeldBases.{BasisValue, IsHeldBasis, children, expanded_at, IsExpandedAt, IsPlaceAbove};
+ghost use Rattle.ht_pair.specs.HeldBases.{IsHeldBasis, children, expanded_at, IsExpandedAt, IsPlaceAbove};
 
 use crate::headed::place_above;
 use ht_word::{NoMemory, Shape, Word, Words};

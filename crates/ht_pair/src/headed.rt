@@ -1,5 +1,5 @@
 //! The search, in items in order of a word each, for the one whose word is a prefix of another word.
-ghost use Rattle.std.specs.Prelude.{◌≡◌, ◌≤◌, true, false, List, ℕ, map, length, MatchOption};
+ghost use Rattle.std.specs.Prelude.{◌≡◌, ◌≤◌, true, false, map, length, MatchOption};
 ghost use Rattle.std.specs.List.Sorted.{IsPartitionPoint};
 ghost use Rattle.std.specs.Ordering.{is_le};
 ghost use Rattle.ht_word.specs.declared.word.Word.{Word};

@@ -1,9 +1,7 @@
 //! How rows move words.
-ghost use Rattle.std.specs.Prelude.{◌≡◌, ◌≤◌, ◌↔◌, true, false, List, ℕ, Some, length, slice_get, IsTrue, IfOk, MatchOption};
-ghost use Rattle.std.specs.List.Sorted.{IsPartitionPoint};
-ghost use Rattle.std.specs.Ordering.{is_le};
+ghost use Rattle.std.specs.Prelude.{◌≡◌, ◌↔◌, List, ℕ, Some, slice_get, IsTrue, IfOk, MatchOption};
 ghost use Rattle.ht_word.specs.declared.word.Word.{Word};
-ghost use Rattle.ht_word.specs.Words.{◌·◌, word_cmp, IsUnder, IsAscending};
+ghost use Rattle.ht_word.specs.Words.{◌·◌, IsUnder, IsAscending};
 ghost use Rattle.ht_pair.specs.declared.row.Row.{Row};
 ghost use Rattle.ht_pair.specs.Bases.{IsPrefixFree};
 ghost use Rattle.ht_pair.specs.Pairs.{from_words, identity};

@@ -1,13 +1,15 @@
 -- What one step of a reduced pair carries under a basis.
 use Rattle.std.proofs.Common.{◌≡◌, List, [], refl, sym, ap, ◌∙◌, subst, subst₂, arith, Contains, pos}
+use Rattle.std.proofs.lemmas.List.Elements.{All-contains}
+use Rattle.std.specs.declared.cmp.Ordering.TheVariants.{Less}
 use Rattle.ht_word.specs.declared.word.Word.{Word}
 use Rattle.ht_word.specs.declared.shape.Shape.{Shape}
-use Rattle.ht_word.specs.Words.{◌·◌, IsWordOf, IsUnderSome, IsAscending}
-use Rattle.ht_word.proofs.WordLaws.{after-nil, All-from_contains}
-use Rattle.ht_word.proofs.ListLaws.{Contains-map, contained_in_map}
+use Rattle.ht_word.specs.Words.{◌·◌, word_cmp, IsWordOf, IsUnderSome, IsAscending}
+use Rattle.ht_word.proofs.WordLaws.{after-nil, under_refl, word_cmp_once, All-from_contains}
+use Rattle.ht_word.proofs.ListLaws.{Contains-map, contained_in_map, AllPairs-from_map, ascending_same}
 use Rattle.ht_pair.specs.declared.row.Row.{Row}
 use Rattle.ht_pair.specs.Actions.{Moves, IsCanonical}
-use Rattle.ht_pair.specs.Bases.{IsBasis, longest}
+use Rattle.ht_pair.specs.Bases.{IsBasis, IsAllUnder, longest}
 use Rattle.ht_pair.specs.HeldBases.{IsHeldBasis}
 use Rattle.ht_pair.specs.Pairs.{IsPair, from_words, to_words}
 use Rattle.ht_pair.specs.Steps.{Carries}
@@ -16,6 +18,7 @@ use Rattle.ht_pair.proofs.BasisLaws.{some_at, basis_word}
 use Rattle.ht_pair.proofs.CanonicalLaws.{Everywhere, reduced_pair}
 use Rattle.ht_pair.proofs.CarriesLaws.{carries_single, carries_from_steps}
 use Rattle.ht_pair.proofs.IdentityLaws.{from_words-keep, to_words-keep}
+use Rattle.ht_pair.proofs.QuasinormalLaws.{both_under}
 use Rattle.ht_pair.proofs.ReducedLaws.{row_above}
 use Rattle.ht_ops.specs.Blocks.{IsFullProduct}
 use Rattle.ht_quasi.specs.Quasis.{kept, IsYOf}
@@ -127,3 +130,31 @@ y_given shape first_shape second_shape p rows X before behind common again y fir
     y_is shape p X common y canonical held
     (subst (λ (s : Shape). IsFullProduct s (kept X) p common) first_is (subst₂ (λ (b q : List Row). IsFullProduct first_shape b q common) before_is rows_are first))
     (subst (λ (s : Shape). IsFullProduct s common (kept X) y) second_is (subst₂ (λ (c b : List Row). IsFullProduct second_shape c b y) again_is behind_is second))
+
+-- ---- a basis has one list of rows
+
+-- the `from` words of one list are under those of another one
+all_under : (shape : Shape) (p : List Row) (X : List Word) (y z : List Row) → IsYOf shape p X y → IsYOf shape p X z → IsAllUnder (from_words y) (from_words z)
+all_under shape p X y z h g = All-from_contains (λ w. IsUnderSome w (from_words z)) (from_words y) (λ w c.
+    let word = basis_word shape (from_words y) h.basis w c in
+    let under = All-contains (λ t. IsUnderSome t X) (from_words y) w h.from_under c in
+    (g.carried w word under).1 ((h.carried w word under).0 (some_at (from_words y) w w c (under_refl w))))
+
+-- and its rows are in the other
+all_listed : (shape : Shape) (p : List Row) (X : List Word) (y z : List Row) → IsPair shape p → IsYOf shape p X y → IsYOf shape p X z → (row : Row) → Contains y row → Contains z row
+all_listed shape p X y z pair h g row c =
+    let s = contained_in_map (λ (t : Row). t.from) z row.from (both_under shape (from_words y) (from_words z) h.basis (all_under shape p X y z h g) (all_under shape p X z y g h) row.from (Contains-map (λ (t : Row). t.from) y row c)) in
+    let to_is : (s.0).to ≡ row.to = carries_single shape p pair (pos 1) row.from (s.0).to row.to
+    (subst (λ t. Carries shape p (pos 1) t (s.0).to) s.2 (All-contains (λ (t : Row). Carries shape p (pos 1) t.from t.to) z s.0 g.to s.1))
+    (All-contains (λ (t : Row). Carries shape p (pos 1) t.from t.to) y row h.to c) in
+    let from_is : (s.0).from ≡ row.from = s.2 in
+    let is : s.0 ≡ row = λ i. record { from = from_is i; to = to_is i } in
+    subst (Contains z) is s.1
+
+-- so there is one list
+pub y_single : (shape : Shape) (p : List Row) (X : List Word) (y z : List Row) → IsPair shape p → IsYOf shape p X y → IsYOf shape p X z → y ≡ z
+y_single shape p X y z pair h g =
+    ascending_same (λ (s : Row) (t : Row). word_cmp s.from t.from ≡ Less) (λ s t. word_cmp_once s.from t.from) y z
+    (AllPairs-from_map (λ (t : Row). t.from) (λ u v. word_cmp u v ≡ Less) y h.ascending)
+    (AllPairs-from_map (λ (t : Row). t.from) (λ u v. word_cmp u v ≡ Less) z g.ascending)
+    (all_listed shape p X y z pair h g) (all_listed shape p X z y pair g h)

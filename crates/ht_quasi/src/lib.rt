@@ -12,11 +12,13 @@
 //! - `y`: the rows of what one step carries under a basis
 //! - `class`: the classes of the words of a basis
 //! - `fault`: why no basis was found
+//! - `laws`: the laws that show the definitions right
 #![tactic(auto)]
 
 mod chain;
 mod class;
 mod fault;
+pub mod laws;
 mod least;
 mod quasi;
 mod round;
