@@ -45,7 +45,9 @@ impl Answering {
         self.some_refused
     }
 
-    /// Answers one line, without its line feed, and appends the text of its answer.
+    /// Answers one line, without its line feed, and appends the text of its answer. Takes as long
+    /// as `Session::answer` and the printing. Want of memory ends the run: what is held then, and
+    /// the text, are of no use.
     pub fn answer<L: Library>(
         &mut self,
         alloc: Global,

@@ -54,7 +54,8 @@ impl Reading {
 
     /// Answers the lines that end in the next bytes of the script, and appends the texts of the
     /// answers; no bytes are its end. Beyond the limits no line is answered. One pass over the
-    /// bytes, beside the answering.
+    /// bytes, beside the answering. After `Within` the next bytes may be taken, and after anything
+    /// else none: want of memory too ends the run.
     pub fn take<L: Library>(
         &mut self,
         alloc: Global,
