@@ -1,9 +1,11 @@
 -- Fetches, one after another.
-use Rattle.std.proofs.Common.{ℕ, ◌-◌, ◌^◌, ◌<◌, ◌≤◌, List, [], ◌++◌, arith}
-use Rattle.std.specs.Prelude.{Option}
-use Rattle.std.proofs.lemmas.List.Elements.{All-nil, All-append}
+use Rattle.std.proofs.Common.{◌≡◌, ◌∙◌, refl, sym, inl, inr, ◌∷◌, ℕ, ◌-◌, ◌^◌, ◌<◌, ◌≤◌, List, [], ◌++◌, ◌+◌, arith}
+use Rattle.std.specs.Prelude.{Option, None, Some, IfSome, ◌⊎◌, count_by}
+use Rattle.std.proofs.lemmas.List.Elements.{All-nil, All-cons, All-append}
 use Rattle.std.proofs.lemmas.List.Sums.{sum_by-append}
-use Rattle.ht_calc.specs.Fetches.{Fetched, MayGive, AreFetches}
+use Rattle.ht_out.specs.Counts.{Rose}
+use Rattle.ht_out.specs.FileMaps.{file_of, Gives, Misses}
+use Rattle.ht_calc.specs.Fetches.{Fetched, MayGive, is_fault, AreFetches}
 
 -- no call, and no fault
 pub nothing_asked : (files : Option (List (List ℕ × List ℕ))) (count : ℕ) → AreFetches files count count []
@@ -28,3 +30,30 @@ asked_later files a b c made asked later = record {
   later = omega (arith, asked.later);
   faults = λ low. let low_before : b < 2 ^ 64 - 1 = omega arith in omega (arith, asked.faults low_before);
 }
+
+-- one call
+one_call : (files : Option (List (List ℕ × List ℕ))) (before now : ℕ) (fetched : Fetched) → MayGive files fetched → before ≤ now
+    → (now < 2 ^ 64 - 1 → before + count_by (is_fault files) (fetched ∷ []) ≤ now) → AreFetches files before now (fetched ∷ [])
+one_call files before now fetched may later faults = record {
+  each = All-cons (MayGive files) fetched [] may (All-nil (MayGive files));
+  later = later;
+  faults = faults;
+}
+
+-- a file was given
+pub file_given : (files : Option (List (List ℕ × List ℕ))) (before now : ℕ) (file bytes : List ℕ) → before ≤ now → IfSome files (λ entries. Gives entries file 4194304 bytes)
+    → AreFetches files before now (record { file = file; gives = Some bytes } ∷ [])
+file_given files before now file bytes later gives = one_call files before now (record { file = file; gives = Some bytes }) gives later (λ low. omega arith)
+
+-- a file wasn't given
+pub file_failed : (files : Option (List (List ℕ × List ℕ))) (before now : ℕ) (file : List ℕ) → before ≤ now → Rose before now ⊎ Misses files file
+    → AreFetches files before now (record { file = file; gives = None } ∷ [])
+file_failed None before now file later (inl rose) = one_call None before now (record { file = file; gives = None }) tt later (λ low. omega arith)
+file_failed None before now file later (inr missing) = absurd missing
+file_failed (Some entries) before now file later why = one_call (Some entries) before now (record { file = file; gives = None }) tt later (λ low. risen (file_of entries file) refl low why)
+  where
+    risen : (found : Option (List ℕ)) → file_of entries file ≡ found → now < 2 ^ 64 - 1 → Rose before now ⊎ Misses (Some entries) file
+        → before + count_by (is_fault (Some entries)) (record { file = file; gives = None } ∷ []) ≤ now
+    risen None is low why = rw is (omega arith)
+    risen (Some bytes) is low (inl rose) = rw is (omega arith)
+    risen (Some bytes) is low (inr missing) = let clash : Some bytes ≡ None = sym is ∙ missing in cc
