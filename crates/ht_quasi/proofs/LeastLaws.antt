@@ -1,5 +1,5 @@
 -- The rounds from the roots to the least semi-normal basis, and what they spend.
-use Rattle.std.proofs.Common.{◌≡◌, ℕ, ◌+◌, ◌*◌, ◌^◌, ◌<◌, ◌≤◌, inl, inr, Bool, List, length, refl, sym, ap, ◌∙◌, subst, arith, Contains}
+use Rattle.std.proofs.Common.{◌≡◌, ℕ, ◌+◌, ◌*◌, ◌^◌, ◌<◌, ◌≤◌, inl, inr, Bool, List, length, refl, sym, ap, ◌∙◌, subst, subst₂, arith, Contains, negsuc}
 use Rattle.std.specs.Prelude.{◌-◌}
 use Rattle.std.proofs.Math.Nat.{mul-le-mul_left}
 use Rattle.std.proofs.lemmas.Bool.{cases_lt}
@@ -12,6 +12,7 @@ use Rattle.ht_word.proofs.WordLaws.{All-from_contains}
 use Rattle.ht_pair.specs.Actions.{IsCanonical}
 use Rattle.ht_pair.specs.Bases.{roots, IsAllUnder, TakesAtMost}
 use Rattle.ht_pair.specs.HeldBases.{BasisValue, expanded_at}
+use Rattle.ht_pair.specs.Products.{IsPower}
 use Rattle.ht_pair.specs.SemiNormal.{IsSemiNormal, IsQuasinormal}
 use Rattle.ht_pair.specs.declared.row.Row.{Row}
 use Rattle.ht_pair.proofs.BadChainLaws.{HasNoBadChain, semi_normal_without, bad_word_out}
@@ -22,7 +23,12 @@ use Rattle.ht_pair.proofs.CountLaws.{no_fewer_below}
 use Rattle.ht_pair.proofs.HeldBasisLaws.{held_expanded_at}
 use Rattle.ht_pair.proofs.LeastBasisSizes.{quasinormal_size}
 use Rattle.ht_pair.proofs.QuasinormalLaws.{quasinormal_exists}
-use Rattle.ht_quasi.specs.Rounds.{AreBadMarks}
+use Rattle.ht_quasi.specs.Rounds.{AreSteps}
+use Rattle.ht_quasi.specs.declared.step.Step.{Step}
+use Rattle.ht_quasi.specs.Kept.{place_after, AreAllInside, IsRenewed}
+use Rattle.ht_quasi.specs.Walks.{AreBadPlaces}
+use Rattle.ht_quasi.proofs.KeptLaws.{place_of_all, all_inside}
+use Rattle.ht_quasi.proofs.RoundLaws.{AreBadMarks, bad_marks}
 use Rattle.ht_quasi.proofs.ExpandedLaws.{under_expanded, count_set, length-expanded, none_set}
 
 -- every semi-normal basis is under the basis, and so much of the budget is left
@@ -116,3 +122,45 @@ not_enough shape p budget canonical q d e =
       | inl l ↦ l
       | inr l ↦ absurd (q.2 (omega (arith, l, quasinormal_size shape p canonical.pair canonical.reduced q.0 q.1 d e)))
     ]
+
+-- ---- the rounds
+
+-- the basis on the way, with the steps of its words ahead and back
+pub record AreRounds (shape : Shape) (p q : List Row) (budget left : ℕ) (basis : BasisValue) (ahead behind : List Step) : Type 0 where
+  pub way : IsOnTheWay shape p budget left basis
+  pub steps : AreSteps shape p basis.words ahead
+  pub back : AreSteps shape q basis.words behind
+
+-- there are few words on the way
+pub few_words : (shape : Shape) (p q : List Row) (budget left : ℕ) (basis : BasisValue) (ahead behind : List Step) (marks : List Bool) → budget ≤ 65536 → AreRounds shape p q budget left basis ahead behind → AreBadPlaces ahead behind marks → length marks < 2 ^ 32
+few_words shape p q budget left basis ahead behind marks l r bad =
+    omega (arith, bad.many, r.steps.many, r.way.size, shape.roots_high, shape.letters_high, mul-le-mul_left {m = budget} {n = 65536} (shape.n - 1) l)
+
+-- as many words come after as are told
+pub words_after : (shape : Shape) (p q : List Row) (budget left : ℕ) (old new : BasisValue) (ahead behind : List Step) (marks given : List Bool) → AreRounds shape p q budget left old ahead behind → AreBadPlaces ahead behind marks → given ≡ marks
+    → (new.shape ≡ old.shape) × (new.words ≡ expanded_at old.shape old.words given) → (new.shape ≡ shape) × (new.words ≡ expanded_at shape old.words marks) × (length new.words ≡ place_after shape.n marks (length marks))
+words_after shape p q budget left old new ahead behind marks given r bad e h =
+    let words_are : new.words ≡ expanded_at shape old.words marks = h.1 ∙ ap (λ s. expanded_at s old.words given) r.way.shape_is ∙ ap (λ (t : List Bool). expanded_at shape old.words t) e in (
+      h.0 ∙ r.way.shape_is,
+      words_are,
+      ap (λ (X : List Word). length X) words_are ∙ place_of_all shape old.words marks (bad.many ∙ r.steps.many),
+    )
+
+pub places_bad : (ahead behind given other : List Step) (marks : List Bool) → given ≡ ahead → other ≡ behind → AreBadPlaces given other marks → AreBadPlaces ahead behind marks
+places_bad ahead behind given other marks e f bad = subst₂ (λ (x y : List Step). AreBadPlaces x y marks) e f bad
+
+-- the marks of a round
+pub round_marks : (shape : Shape) (p q : List Row) (budget left : ℕ) (basis : BasisValue) (ahead behind : List Step) (marks : List Bool) → IsCanonical shape p → IsPower shape p (negsuc 0) q → AreRounds shape p q budget left basis ahead behind → AreBadPlaces ahead behind marks
+    → AreBadMarks shape p basis.words marks
+round_marks shape p q budget left basis ahead behind marks canonical power r bad = bad_marks shape p q canonical.pair power basis.words ahead behind marks r.steps r.back bad
+
+-- the steps after a round
+pub renewed : (shape given : Shape) (p : List Row) (steps told : List Step) (marks set : List Bool) (before X : List Word) (new : List Step) → given ≡ shape → told ≡ steps → set ≡ marks → IsRenewed given p told set X new → AreSteps shape p before steps → X ≡ expanded_at shape before marks
+    → AreSteps shape p X new
+renewed shape given p steps told marks set before X new e f g h old is =
+    subst (λ (s : Shape). AreSteps s p X new) e (h before (subst (λ (s : Shape). AreSteps s p before told) (sym e) (subst (AreSteps shape p before) (sym f) old))
+    (is ∙ ap (λ (m : List Bool). expanded_at shape before m) (sym g) ∙ ap (λ (s : Shape). expanded_at s before set) (sym e)))
+
+-- they tell of places of the basis
+pub told_inside : (shape : Shape) (p : List Row) (X : List Word) (steps told : List Step) (marks set : List Bool) → told ≡ steps → set ≡ marks → length marks ≡ length X → AreSteps shape p X steps → AreAllInside told (length set)
+told_inside shape p X steps told marks set e f many h = all_inside shape p X told (length set) (subst (AreSteps shape p X) (sym e) h) (ap (λ (m : List Bool). length m) f ∙ many)

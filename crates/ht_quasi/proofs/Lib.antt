@@ -6,5 +6,6 @@ pub mod WalkLaws
 pub mod ChainLaws
 pub mod RoundLaws
 pub mod ExpandedLaws
+pub mod KeptLaws
 pub mod LeastLaws
 pub mod QuasiLaws

@@ -7,6 +7,7 @@ use Rattle.ht_word.specs.Words.{◌·◌}
 use Rattle.ht_word.proofs.WordLaws.{after-nil, after_cancel, under_refl, under_after}
 use Rattle.ht_pair.specs.Actions.{Alike}
 use Rattle.ht_pair.specs.BadChains.{Splits as SplitsIn, IsJoined, LeadsToSplit, ComesFromJoined}
+use Rattle.ht_pair.specs.HeldBases.{IsHeldBasis}
 use Rattle.ht_pair.specs.Pairs.{IsPair, turned}
 use Rattle.ht_pair.specs.Products.{IsPower}
 use Rattle.ht_pair.specs.SemiNormal.{CarriesUnder}
@@ -18,10 +19,30 @@ use Rattle.ht_pair.proofs.CarriesLaws.{carries_single, carries_back}
 use Rattle.ht_pair.proofs.MovesLaws.{turned_pair}
 use Rattle.ht_quasi.specs.declared.step.Step.{Step}
 use Rattle.ht_quasi.specs.declared.step.Step.TheVariants.{Splits, Next, Descends}
-use Rattle.ht_quasi.specs.Rounds.{GoesTo, GoesBelow, HasStep, AreSteps, AreBadMarks}
+use Rattle.ht_quasi.specs.Rounds.{GoesTo, GoesBelow, HasStep, AreSteps, IsMarked}
 use Rattle.ht_quasi.specs.Walks.{AreInside, LeadsIn, FollowsIn, AreBadPlaces}
 use Rattle.ht_quasi.proofs.ChainLaws.{leads_within}
 use Rattle.ht_quasi.proofs.StepLaws.{listed_at, same_at}
+
+-- x is joined, and p carries it through words of X to one that splits
+pub record BeginsBadChain (shape : Shape) (p : List Row) (X : List Word) (x : Word) : Type 0 where
+  pub joined : IsJoined shape p X x
+  pub steps : ℕ
+  pub leads : LeadsToSplit shape p X steps x
+
+-- a joined word of X leads to x, and x to a word that splits
+pub record IsInBadChain (shape : Shape) (p : List Row) (X : List Word) (x : Word) : Type 0 where
+  pub before : ℕ
+  pub comes : ComesFromJoined shape p X before x
+  pub behind : ℕ
+  pub leads : LeadsToSplit shape p X behind x
+
+-- words of bad chains of the basis X are marked, all that begin one among them, and no others
+pub record AreBadMarks (shape : Shape) (p : List Row) (X : List Word) (marks : List Bool) : Type 0 where
+  pub held : IsHeldBasis shape X
+  pub many : length marks ≡ length X
+  pub bad : (place : ℕ) (x : Word) → slice_get X place ≡ Some x → IsMarked marks place → IsInBadChain shape p X x
+  pub all : (place : ℕ) (x : Word) → slice_get X place ≡ Some x → BeginsBadChain shape p X x → IsMarked marks place
 
 -- ---- steps back
 
@@ -62,9 +83,9 @@ next_no_split : (shape : Shape) (p : List Row) (X : List Word) (x : Word) (place
 unfolding SplitsIn
 next_no_split shape p X x place g s = s (record { to = g.to; carries = g.carries; under = some_at X g.to g.to (listed_at X place g.to g.here) (under_refl g.to) })
 
-below_no_split : (shape : Shape) (p : List Row) (X : List Word) (x : Word) → GoesBelow shape p X x → SplitsIn shape p X x → ⊥
+below_no_split : (shape : Shape) (p : List Row) (X : List Word) (x : Word) (place : ℕ) → GoesBelow shape p X x place → SplitsIn shape p X x → ⊥
 unfolding SplitsIn
-below_no_split shape p X x g s = s (record { to = g.above · g.rest; carries = g.carries; under = some_at X g.above (g.above · g.rest) g.listed (under_after g.above g.rest) })
+below_no_split shape p X x place g s = s (record { to = g.above · g.rest; carries = g.carries; under = some_at X g.above (g.above · g.rest) (listed_at X place g.above g.here) (under_after g.above g.rest) })
 
 -- a word that splits has that step
 split_step : (shape : Shape) (p : List Row) (X : List Word) (steps : List Step) → AreSteps shape p X steps → (place : ℕ) (x : Word) → slice_get X place ≡ Some x → SplitsIn shape p X x → slice_get steps place ≡ Some Splits
@@ -75,7 +96,7 @@ split_step shape p X steps h place x here s =
     by : (step : Step) → slice_get steps place ≡ Some step → HasStep shape p X x step → slice_get steps place ≡ Some Splits
     by Splits at g = at
     by (Next next) at g = absurd (next_no_split shape p X x next g s)
-    by Descends at g = absurd (below_no_split shape p X x g s)
+    by (Descends below) at g = absurd (below_no_split shape p X x below g s)
 
 -- a word that is carried to a word of X goes to it
 exact_step : (shape : Shape) (p : List Row) → IsPair shape p → (X : List Word) (steps : List Step) → AreSteps shape p X steps → (place : ℕ) (x y : Word) → slice_get X place ≡ Some x → Contains X y → Carries shape p (pos 1) x y
@@ -90,9 +111,9 @@ exact_step shape p pair X steps h place x y here c carries =
         splits_not : SplitsIn shape p X x → ⊥
         splits_not s = unfold SplitsIn in s (record { to = y; carries = carries; under = some_at X y y c (under_refl y) })
     by (Next next) at g = (next, at, g.here ∙ ap (λ (t : Word). Some t) (carries_single shape p pair (pos 1) x g.to y g.carries carries))
-    by Descends at g = absurd (
+    by (Descends below) at g = absurd (
         let is : g.above · g.rest ≡ y = carries_single shape p pair (pos 1) x (g.above · g.rest) y g.carries carries in
-        let same : y ≡ g.above = prefix_free_same X h.held.basis.prefix_free y g.above c g.listed (record { rest = g.rest; is = sym is }) in
+        let same : y ≡ g.above = prefix_free_same X h.held.basis.prefix_free y g.above c (listed_at X below g.above g.here) (record { rest = g.rest; is = sym is }) in
         g.longer (after_cancel g.above g.rest [] (is ∙ same ∙ sym (after-nil g.above))))
 
 -- ---- walks and chains

@@ -15,6 +15,7 @@ use Rattle.ht_pair.proofs.CanonicalLaws.{Everywhere, reduced_pair}
 use Rattle.ht_pair.proofs.CarriesLaws.{carries_single, carries_from_steps}
 use Rattle.ht_pair.proofs.ReducedLaws.{reduced_moves}
 use Rattle.ht_quasi.specs.declared.step.Step.{Step}
+use Rattle.ht_quasi.specs.Kept.{HaveSteps}
 use Rattle.ht_quasi.specs.Rounds.{GoesTo, GoesBelow, HasStep, AreSteps}
 
 -- a canonical pair carries by one step what it moves
@@ -55,23 +56,18 @@ goes_to shape p canonical X W u v y place h m above are here same =
 
 -- and one that is moved to a longer word goes below it
 pub goes_below : (shape : Shape) (p : List Row) → IsCanonical shape p → (X W : List Word) (u v y : Word) (place : ℕ) → IsWordOf shape u → Moves p u v → IsPlaceAbove X v place → W ≡ X → slice_get W place ≡ Some y
-    → ¬ (length y.letters ≡ length v.letters) → GoesBelow shape p X u
+    → ¬ (length y.letters ≡ length v.letters) → GoesBelow shape p X u place
 goes_below shape p canonical X W u v y place h m above are here other =
     let is : y ≡ above.word = same_at W X place y above.word are here above.here in
     record {
       above = above.word;
       rest = above.above.rest;
-      listed = listed_at X place above.word above.here;
+      here = above.here;
       longer = λ e. other (omega (arith, ap (λ (w : Word). length w.letters) is, ap (λ (w : Word). length w.letters) above.above.is, length-after above.word above.above.rest, ap (λ (z : List ℕ). length z) e));
       carries = subst (Carries shape p (pos 1) u) above.above.is (moved_carries shape p canonical u v h m);
     }
 
 -- ---- the steps of all words
-
--- the first words of X have their steps
-pub record HaveSteps (shape : Shape) (p : List Row) (X : List Word) (count : ℕ) (steps : List Step) : Type 0 where
-  pub many : length steps ≡ count
-  pub each : (place : ℕ) (x : Word) (step : Step) → slice_get X place ≡ Some x → slice_get steps place ≡ Some step → HasStep shape p X x step
 
 -- what stands in a list with one more entry
 pub at_push : {T : Type 0} (xs : List T) (x y : T) (place : ℕ) → slice_get (xs ++ x ∷ []) place ≡ Some y → (slice_get xs place ≡ Some y) ⊎ ((place ≡ length xs) × (x ≡ y))

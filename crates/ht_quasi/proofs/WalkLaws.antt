@@ -54,13 +54,13 @@ unfolding LeadsIn
 walked_out steps start count place w here = subst (λ j. LeadsIn steps j start) (omega arith) (w.on 0 here)
 
 -- a word that descends leads to none
-pub walked_down : (steps : List Step) (start count place : ℕ) → IsWalked steps start count place → slice_get steps place ≡ Some Descends → (k : ℕ) → k < length steps → ¬ LeadsIn steps k start
+pub walked_down : (steps : List Step) (start count place below : ℕ) → IsWalked steps start count place → slice_get steps place ≡ Some (Descends below) → (k : ℕ) → k < length steps → ¬ LeadsIn steps k start
 unfolding LeadsIn
-walked_down steps start count place w here k l h = none (w.off k h).0 (w.off k h).2
+walked_down steps start count place below w here k l h = none (w.off k h).0 (w.off k h).2
   where
     none : (j : ℕ) → LeadsIn steps j place → ⊥
-    none zero g = let e : Some Descends ≡ Some Splits = sym here ∙ g in cc
-    none (suc j) g = let e : Some Descends ≡ Some (Next g.0) = sym here ∙ g.1 in cc
+    none zero g = let e : Some (Descends below) ≡ Some Splits = sym here ∙ g in cc
+    none (suc j) g = let e : Some (Descends below) ≡ Some (Next g.0) = sym here ∙ g.1 in cc
 
 -- nor does one from which as many steps were taken as there are words
 pub walked_far : (steps : List Step) (start count place : ℕ) → IsWalked steps start count place → length steps ≤ count → (k : ℕ) → k < length steps → ¬ LeadsIn steps k start

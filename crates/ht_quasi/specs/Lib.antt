@@ -3,3 +3,4 @@ pub mod Quasis
 pub mod Marks
 pub mod Rounds
 pub mod Walks
+pub mod Kept

@@ -1,15 +1,11 @@
--- The bad chains of a basis, after Higman 1974, and how the words of all of them are told; the names are this project's own.
--- A chain leads by exact steps through words of the basis; a bad one leads from a joined word to one that splits.
+-- What a pair does next with the words of a basis; after Higman 1974, the names are this project's own.
 --
 --     GoesTo shape p X x place         p carries x to the word of X at the place, counted from 0
---     GoesBelow shape p X x            p carries x to a longer word under a word of X
+--     GoesBelow shape p X x place      p carries x to a longer word under the word of X at the place
 --     HasStep shape p X x step         what p does with x: it carries x to no word under X, to a word of X, or to one below
 --     AreSteps shape p X steps         X is a basis in ascending order, each word with its step
---     BeginsBadChain shape p X x       x is joined, and p carries it through words of X to one that splits
---     IsInBadChain shape p X x         a joined word of X leads to x, and x to a word that splits
 --     IsMarked marks place             the mark at the place is set
---     AreBadMarks shape p X marks      words of bad chains of the basis X are marked, all that begin one among them, and no others
-use Rattle.std.specs.Prelude.{ℕ, ◌≡◌, ◌≢◌, Bool, true, false, List, [], length, Some, slice_get, slice_index_or, Contains, pos}
+use Rattle.std.specs.Prelude.{ℕ, ◌≡◌, ◌≢◌, Bool, true, false, List, [], length, Some, slice_get, slice_index_or, pos}
 use Rattle.ht_word.specs.declared.word.Word.{Word}
 use Rattle.ht_word.specs.declared.shape.Shape.{Shape}
 use Rattle.ht_word.specs.Words.{◌·◌}
@@ -25,39 +21,22 @@ pub record GoesTo (shape : Shape) (p : List Row) (X : List Word) (x : Word) (pla
   pub here : slice_get X place ≡ Some to
   pub carries : Carries shape p (pos 1) x to
 
-pub record GoesBelow (shape : Shape) (p : List Row) (X : List Word) (x : Word) : Type 0 where
+pub record GoesBelow (shape : Shape) (p : List Row) (X : List Word) (x : Word) (place : ℕ) : Type 0 where
   pub above : Word
   pub rest : List ℕ
-  pub listed : Contains X above
+  pub here : slice_get X place ≡ Some above
   pub longer : rest ≢ []
   pub carries : Carries shape p (pos 1) x (above · rest)
 
 abbrev pub HasStep : Shape → List Row → List Word → Word → Step → Type 0
 HasStep shape p X x Splits = chains.Splits shape p X x
 HasStep shape p X x (Next place) = GoesTo shape p X x place
-HasStep shape p X x Descends = GoesBelow shape p X x
+HasStep shape p X x (Descends place) = GoesBelow shape p X x place
 
 pub record AreSteps (shape : Shape) (p : List Row) (X : List Word) (steps : List Step) : Type 0 where
   pub held : IsHeldBasis shape X
   pub many : length steps ≡ length X
   pub each : (place : ℕ) (x : Word) (step : Step) → slice_get X place ≡ Some x → slice_get steps place ≡ Some step → HasStep shape p X x step
 
-pub record BeginsBadChain (shape : Shape) (p : List Row) (X : List Word) (x : Word) : Type 0 where
-  pub joined : chains.IsJoined shape p X x
-  pub steps : ℕ
-  pub leads : chains.LeadsToSplit shape p X steps x
-
-pub record IsInBadChain (shape : Shape) (p : List Row) (X : List Word) (x : Word) : Type 0 where
-  pub before : ℕ
-  pub comes : chains.ComesFromJoined shape p X before x
-  pub behind : ℕ
-  pub leads : chains.LeadsToSplit shape p X behind x
-
 abbrev pub IsMarked : List Bool → ℕ → Type 0
 IsMarked marks place = slice_index_or marks place false ≡ true
-
-pub record AreBadMarks (shape : Shape) (p : List Row) (X : List Word) (marks : List Bool) : Type 0 where
-  pub held : IsHeldBasis shape X
-  pub many : length marks ≡ length X
-  pub bad : (place : ℕ) (x : Word) → slice_get X place ≡ Some x → IsMarked marks place → IsInBadChain shape p X x
-  pub all : (place : ℕ) (x : Word) → slice_get X place ≡ Some x → BeginsBadChain shape p X x → IsMarked marks place

@@ -20,7 +20,7 @@ fn steps_to_split(steps: &[Step], start: usize) -> Option<usize>
         match steps[place] {
             Step::Splits => return Some(count),
             Step::Next(next) => place = next,
-            Step::Descends => return None,
+            Step::Descends(_) => return None,
         }
     }
     None

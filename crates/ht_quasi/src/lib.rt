@@ -6,9 +6,9 @@
 //!
 //! - `quasi`: the quasinormal basis, with its rows and classes
 //! - `least`: rounds until no bad chain is left
-//! - `round`: the words of the bad chains of a basis
-//! - `chain`: the same by the steps of the words
+//! - `chain`: the words of the bad chains of a basis, by the steps of its words
 //! - `step`: what an element does next with the words of a basis
+//! - `kept`: the steps of a basis after a round, from those before
 //! - `y`: the rows of what one step carries under a basis
 //! - `class`: the classes of the words of a basis
 //! - `fault`: why no basis was found
@@ -18,10 +18,10 @@
 mod chain;
 mod class;
 mod fault;
+mod kept;
 pub mod laws;
 mod least;
 mod quasi;
-mod round;
 mod step;
 mod y;
 

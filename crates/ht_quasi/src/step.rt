@@ -15,15 +15,20 @@ pub(crate) enum Step {
     Splits,
     // it carries it to the word of the basis at this place, counted from 0
     Next(usize),
-    // it carries it to a longer word under a word of the basis
-    Descends,
+    // it carries it to a longer word under the word of the basis at this place
+    Descends(usize),
 }
 
 // The steps of the words of a basis, in their order.
 pub(crate) type Steps = List<Step>;
 
 // The step of one word: two binary searches.
-fn step_of(alloc: Global, a: &Element, basis: &Basis, word: &Word) -> Result<Step, NoMemory>
+pub(crate) fn step_of(
+    alloc: Global,
+    a: &Element,
+    basis: &Basis,
+    word: &Word,
+) -> Result<Step, NoMemory>
     requires { IsWordOf a.now.shape word.now }
     ensures { IfOk result (HasStep a.now.shape a.now.rows basis.now.words word.now) }
 {
@@ -37,7 +42,7 @@ fn step_of(alloc: Global, a: &Element, basis: &Basis, word: &Word) -> Result<Ste
     if basis.words().at(place).letters.len() == moved.letters.len() {
         Ok(Step::Next(place))
     } else {
-        Ok(Step::Descends)
+        Ok(Step::Descends(place))
     }
 }
 

@@ -8,7 +8,7 @@ returns-in-Splits c =
 
 pub returns-in-Descends : goal.returns-in-Descends
 returns-in-Descends c =
-    walked_down c.args.steps.now c.args.start c.loop-count.count c.loop-count.place c.loop-count.invariant (step_at c.args.steps.now c.loop-count.place Splits Descends c.loop-count.invariant.inside c.in-Descends.is)
+    walked_down c.args.steps.now c.args.start c.loop-count.count c.loop-count.place c.in-Descends.field-0 c.loop-count.invariant (step_at c.args.steps.now c.loop-count.place Splits (Descends c.in-Descends.field-0) c.loop-count.invariant.inside c.in-Descends.is)
 
 pub loop-count-preserved : goal.loop-count-preserved
 loop-count-preserved c =

@@ -1,4 +1,4 @@
-use Rattle.ht_quasi.proofs.StepLaws.{HaveSteps}
+use Rattle.ht_quasi.specs.Kept.{HaveSteps}
 use Rattle.ht_quasi.proofs.step.steps.Given as goal
 
 abbrev pub invariant-loop-word : goal.invariant-loop-word
