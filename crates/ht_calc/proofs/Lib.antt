@@ -1,3 +1,4 @@
+pub mod CommandReads
 pub mod Ends
 pub mod FactorLaws
 pub mod Fetching

@@ -14,3 +14,4 @@ pub mod Statuses
 pub mod ShortLines
 pub mod Progress
 pub mod Tables
+pub mod CommandLines

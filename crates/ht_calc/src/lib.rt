@@ -11,6 +11,7 @@
 //! - `session`: what is remembered from line to line
 //! - `bindings`: what is bound to names
 //! - `product`: products of powers of bound elements
+//! - `words`: the words of the command line
 #![tactic(auto)]
 
 mod answering;
@@ -20,6 +21,7 @@ mod product;
 mod script;
 mod session;
 mod status;
+mod words;
 
 pub use script::run;
 pub use session::Session;
