@@ -59,50 +59,64 @@ record TakesOne (q : ValueParser) (x : Arg) : Type 0 where
   delimiter : x.val_delim ≡ None
   least : 1 ≤ least_values x
 
+-- all arguments of an id take one value
+abbrev AllTakeOne : Command → List ℕ → ValueParser → Type 0
+AllTakeOne c id q =
+    (j : ℕ) (x : Arg) → j < length (args_of c) → slice_index_or (args_of c) j x ≡ x → bytes_eq x.id.now id ≡ true → TakesOne q x
+
+-- an entry of such an id that is no group's has a value, and is read as the parser says
+entry_filled : (c : Command) (e : Entry) (q : ValueParser) → AllTakeOne c e.0.now q → (e.1.is_group ≡ true → ⊥) → EntryPasses c e
+    → 0 < length e.1.vals.items
+entry_filled c e q takes no_group passes = elim passes.1 [
+  | inl h ↦ absurd (no_group h.0)
+  | inr (inl v) ↦ v
+  | inr (inr (inl h)) ↦
+      let any = h.1 in
+      let is_set : any.1.action ≡ Some Set = (takes any.0 any.1 any.2 any.3 any.4.0).action in
+      let bad : Set ≡ Count = rw is_set at any.4.1 in
+      cc
+  | inr (inr (inr any)) ↦
+      let t = takes any.0 any.1 any.2 any.3 any.4.0 in
+      elim any.4.1 [
+        | inl none ↦ let one = t.least in absurd (omega arith)
+        | inr some ↦ let bad : false ≡ true = rw t.delimiter at some in cc
+      ]
+]
+
+entry_reading : (c : Command) (e : Entry) (q : ValueParser) → AllTakeOne c e.0.now q → (e.1.is_group ≡ true → ⊥) → EntryPasses c e
+    → e.1.reading ≡ reading_of q
+entry_reading c e q takes no_group passes = elim passes.4 [
+  | inl g ↦ absurd (no_group g)
+  | inr any ↦
+      let t = takes any.0 any.1 any.2 any.3 any.4.0 in
+      sym any.4.1 ∙ ap (λ p. reading_of (parser_of_value p)) t.parser
+]
+
+passes_parser : (c : Command) (id : List ℕ) (q : ValueParser) (text : List ℕ) → AllTakeOne c id q → PassesArg c id text
+    → (i : Bool) × Accepts i q text
+passes_parser c id q text takes any =
+    let t = takes any.0 any.1 any.2 any.3 any.4.0 in
+    (any.1.ignore_case, subst (λ p. Accepts any.1.ignore_case (parser_of_value p) text) t.parser any.4.1)
+
 -- the entry of an id whose arguments take one value has a text that their parser accepts
 entry_reads : (c : Command) (f : Found) (id : List ℕ) (q : ValueParser) → ValuesPass c f → groups_of c ≡ [] → (id ≡ [] → ⊥)
-    → HasId f id
-    → ((j : ℕ) (x : Arg) → j < length (args_of c) → slice_index_or (args_of c) j x ≡ x → bytes_eq x.id.now id ≡ true → TakesOne q x)
+    → HasId f id → AllTakeOne c id q
     → (t : List ℕ) × (one_text f id ≡ Some (read_as (reading_of q) t)) × ((i : Bool) × Accepts i q t)
 entry_reads c f id q values no_groups named has takes =
     let got = entry_at (EntryPasses c) f.entries.items id has.0 values has.1 has.2 in
     let e = got.0 in
     let key : e.0.now ≡ id = (bytes_eq-Decides e.0.now id).0 got.2 in
-    let takes_e : (j : ℕ) (x : Arg) → j < length (args_of c) → slice_index_or (args_of c) j x ≡ x → bytes_eq x.id.now e.0.now ≡ true → TakesOne q x =
-    λ j x lt at same. takes j x lt at (subst (λ w. bytes_eq x.id.now w ≡ true) key same) in
+    let takes_e : AllTakeOne c e.0.now q = subst (λ w. AllTakeOne c w q) (sym key) takes in
     let no_group : e.1.is_group ≡ true → ⊥ = λ g. elim (got.3.3 g) [
       | inl empty ↦ named (sym key ∙ empty)
       | inr lots ↦ let bad : 0 < 0 = rw no_groups at lots in absurd (omega arith)
     ] in
     let all : All (λ v. PassesArg c e.0.now v.now) e.1.vals.items = elim got.3.0 [ inl g ↦ absurd (no_group g) | inr vals ↦ vals ] in
-    let some : 0 < length e.1.vals.items = elim got.3.1 [
-      | inl h ↦ absurd (no_group h.0)
-      | inr (inl v) ↦ v
-      | inr (inr (inl h)) ↦
-          let any = h.1 in
-          let is_set : any.1.action ≡ Some Set = (takes_e any.0 any.1 any.2 any.3 any.4.0).action in
-          let bad : Set ≡ Count = rw is_set at any.4.1 in
-          cc
-      | inr (inr (inr any)) ↦
-          let t = takes_e any.0 any.1 any.2 any.3 any.4.0 in
-          elim any.4.1 [
-            | inl none ↦ let one = t.least in absurd (omega arith)
-            | inr some ↦ let bad : false ≡ true = rw t.delimiter at some in cc
-          ]
-    ] in
-    let how : e.1.reading ≡ reading_of q = elim got.3.4 [
-      | inl g ↦ absurd (no_group g)
-      | inr any ↦
-          let t = takes_e any.0 any.1 any.2 any.3 any.4.0 in
-          sym any.4.1 ∙ ap (λ p. reading_of (parser_of_value p)) t.parser
-    ] in
-    let first = first_read (λ v. PassesArg c e.0.now v.now) e.1.reading e.1.vals.items some all in
-    let any = first.2 in
-    let t = takes_e any.0 any.1 any.2 any.3 any.4.0 in
+    let first = first_read (λ v. PassesArg c e.0.now v.now) e.1.reading e.1.vals.items (entry_filled c e q takes_e no_group got.3) all in
     let text : one_text f id ≡ Some (read_as e.1.reading first.0.now) = rw got.1 first.1 in (
       first.0.now,
-      subst (λ r. one_text f id ≡ Some (read_as r first.0.now)) how text,
-      (any.1.ignore_case, subst (λ p. Accepts any.1.ignore_case (parser_of_value p) first.0.now) t.parser any.4.1),
+      text ∙ ap (λ r. Some (read_as r first.0.now)) (entry_reading c e q takes_e no_group got.3),
+      passes_parser c e.0.now q first.0.now takes_e first.2,
     )
 
 -- and so of the one argument of a command, which has a default
@@ -119,7 +133,7 @@ one_default_reads old m p a q list plain globals wants takes named own =
     let only : (j : ℕ) (e : Arg) → j < length (args_of old) → bytes_eq (slice_index_or (args_of old) j e).id.now (slice_index_or (args_of old) 0 a).id.now ≡ true → j ≡ 0 =
     λ j e low same. let one : j < 1 = subst (λ l. j < length l) list low in omega arith in
     let own_elem : IsAuto (slice_index_or (args_of old) 0 a) → ⊥ = subst (λ (x : Arg). IsAuto x → ⊥) (sym elem) own in
-    let rules : (j : ℕ) (x : Arg) → j < length (args_of p.built) → slice_index_or (args_of p.built) j x ≡ x → bytes_eq x.id.now a.id.now ≡ true → TakesOne q x =
+    let rules : AllTakeOne p.built a.id.now q =
     λ j x high at same.
     let s : SameRules a x = subst (λ (y : Arg). SameRules y x) elem
     (same_rules_by_id old m p 0 a lt only own_elem j x high at (subst (λ (y : Arg). bytes_eq x.id.now y.id.now ≡ true) (sym elem) same)) in
@@ -232,11 +246,11 @@ given E G old built m r is from parsed value only =
 
 -- ---- what the number of a parse is, with what clap says of this command
 
-simple : is_simple_and_free budget_app ≡ true
-simple = refl
+budget_simple : is_simple budget_app ≡ true
+budget_simple = refl
 
-simple_too : is_simple budget_app ≡ true
-simple_too = refl
+budget_simple_and_free : is_simple_and_free budget_app ≡ true
+budget_simple_and_free = refl
 
 pub is_some_by : {f : Found} {r : Option ℕ} → Given f r → IsSome r
 is_some_by got = subst IsSome (sym got.is) refl
@@ -251,7 +265,7 @@ pub budget_by : (app : App) (words : List Text) → app ≡ budget_app → (f : 
     → (is_simple app ≡ true → rows_of f ≡ matches_of app words) → IsBudgetOf words b
 budget_by app words is f e got rows =
     let same : rows_of f ≡ matches_of budget_app words =
-    subst (λ a. rows_of f ≡ matches_of a words) is (rows (subst (λ a. is_simple a ≡ true) (sym is) simple_too)) in
+    subst (λ a. rows_of f ≡ matches_of a words) is (rows (subst (λ a. is_simple a ≡ true) (sym is) budget_simple)) in
     record {
       text = got.text;
       given = subst (λ rs. one_of (codes "budget") rs ≡ Some got.text) same (sym (one_text-rows f (codes "budget")) ∙ got.found);
@@ -261,7 +275,7 @@ budget_by app words is f e got rows =
 -- ---- when the parse fails
 
 at_budget : (P : App → Type 0) (app : App) → app ≡ budget_app → (is_simple_and_free app ≡ true → P app) → P budget_app
-at_budget P app is at = subst P is (at (subst (λ a. is_simple_and_free a ≡ true) (sym is) simple))
+at_budget P app is at = subst P is (at (subst (λ a. is_simple_and_free a ≡ true) (sym is) budget_simple_and_free))
 
 pub passed : (app : App) (words : List Text) → app ≡ budget_app → (is_simple_and_free app ≡ true → fault_of app words ≡ [])
     → fault_of budget_app words ≡ []

@@ -9,10 +9,6 @@ returns-in_err-matches-clause-fault c =
     failed (app_of c.args.command) (map string_bytes c.args.words.now) c.from_residual.result c.in_err-matches.field-0.0 c.requires
     c.in_err-matches.ensures.kinds c.from_residual.ensures.1
 
-pub returns-clause-fault : goal.returns-clause-fault
-returns-clause-fault c =
-    passed (app_of c.args.command) (map string_bytes c.args.words.now) c.requires c.in_ok-matches.ensures.kinds
-
 pub unwrap-requires : goal.unwrap-requires
 unwrap-requires c =
     let got = given _ (λ bs r. ParsesUnsigned 32 10 bs r × ExplainsUnsignedError 10 bs r × HasUnsignedDigitsIfOk bs r)
@@ -20,17 +16,15 @@ unwrap-requires c =
     c.in_ok-matches.ensures.ok.0 c.in_ok-matches.ensures.ok.1 c.get_one.ensures.value (λ u x g. g.0) in
     is_some_by got
 
-pub returns-clause-limits : goal.returns-clause-limits
-returns-clause-limits c =
+pub returns : goal.returns
+returns c =
+    let words = map string_bytes c.args.words.now in
     let got = given _ (λ bs r. ParsesUnsigned 32 10 bs r × ExplainsUnsignedError 10 bs r × HasUnsignedDigitsIfOk bs r)
     c.args.command c.try_get_matches_from_mut.new.self c.in_ok-matches.matches c.get_one.result c.requires
     c.in_ok-matches.ensures.ok.0 c.in_ok-matches.ensures.ok.1 c.get_one.ensures.value (λ u x g. g.0) in
-    limits_by c.unwrap.ensures got
-
-pub returns-clause-budget : goal.returns-clause-budget
-returns-clause-budget c =
-    let got = given _ (λ bs r. ParsesUnsigned 32 10 bs r × ExplainsUnsignedError 10 bs r × HasUnsignedDigitsIfOk bs r)
-    c.args.command c.try_get_matches_from_mut.new.self c.in_ok-matches.matches c.get_one.result c.requires
-    c.in_ok-matches.ensures.ok.0 c.in_ok-matches.ensures.ok.1 c.get_one.ensures.value (λ u x g. g.0) in
-    budget_by (app_of c.args.command) (map string_bytes c.args.words.now) c.requires (found_of c.in_ok-matches.matches) c.unwrap.ensures got
-    (λ simple. (c.in_ok-matches.ensures.ok.2 simple).0)
+    record {
+      fault = passed (app_of c.args.command) words c.requires c.in_ok-matches.ensures.kinds;
+      budget = budget_by (app_of c.args.command) words c.requires (found_of c.in_ok-matches.matches) c.unwrap.ensures got
+          (λ simple. (c.in_ok-matches.ensures.ok.2 simple).0);
+      limits = limits_by c.unwrap.ensures got;
+    }
