@@ -3,7 +3,7 @@ ghost use Rattle.std.specs.Prelude.{◌↔◌, IsTrue};
 ghost use Rattle.ht_answer.specs.Answers.{IsRefusal};
 
 use ht_pair::Rows;
-use ht_word::Name;
+use ht_word::{Name, Words};
 
 /// The answer to a line.
 #[derive(Debug, Drop)]
@@ -12,12 +12,14 @@ pub enum Answer {
     Blank,
     /// To `group`: the two numbers given.
     Group { n: u32, r: u32 },
-    /// The canonical pair asked for.
+    /// The rows asked for: a canonical pair, or where the words under a word are sent.
     Pair(Rows),
     /// To `let`: the name, and the number of rows of its canonical pair.
     Let { name: Name, rows: usize },
     /// To `equal`: whether the two elements act alike.
     Equal(bool),
+    /// To `basis`: the words of the basis asked for, at least one.
+    Basis(Words),
     /// The line changed nothing.
     Refused(Refusal),
 }
@@ -44,6 +46,10 @@ pub enum Refusal {
     /// An element that the line makes has more than 8,192 rows or a word of more than 1,024
     /// letters: the first such one's number of rows, and the letters of its longest word.
     Large { rows: usize, letters: usize },
+    /// The word of this number on the line, from 1, is the first that isn't of the group's shape.
+    Word(u8),
+    /// The quasinormal basis of the element of this name takes more expansions than the budget has.
+    Budget(Name),
 }
 
 impl Answer {

@@ -1,15 +1,16 @@
 //! The texts of answers.
 ghost use Rattle.std.specs.Prelude.{◌≡◌, ◌++◌, OnOk, OnErr, codes};
-ghost use Rattle.ht_text.specs.Texts.{HasRowsText};
+ghost use Rattle.std.specs.List.{flat_map};
+ghost use Rattle.ht_text.specs.Texts.{HasText, HasRowsText};
 ghost use Rattle.ht_text.specs.Writes.{AddsFront};
-ghost use Rattle.ht_answer.specs.Answers.{HasAnswerText, number_line, refusal_text, answer_text};
+ghost use Rattle.ht_answer.specs.Answers.{HasWordsText, HasAnswerText, number_line, name_line, spaced_text, words_text, refusal_text, answer_text};
 
 use crate::answer::{Answer, Refusal};
 use ht_pair::Rows;
-use ht_text::{write_num, write_rows, write_size};
-use ht_word::{Name, NoMemory};
+use ht_text::{write_num, write_rows, write_size, write_word};
+use ht_word::{Name, NoMemory, Word, Words};
 
-/// Appends the text of an answer, with its line feed. One pass over its rows. After a refusal `out`
+/// Appends the text of an answer, with its line feed. One pass over its rows or words. After a refusal `out`
 /// holds what it held and a front of the text.
 pub fn print(answer: &Answer, out: &mut Vec<u8>) -> Result<(), NoMemory>
     requires { HasAnswerText answer.now }
@@ -22,6 +23,7 @@ pub fn print(answer: &Answer, out: &mut Vec<u8>) -> Result<(), NoMemory>
         Answer::Pair(rows) => print_pair(rows, out),
         Answer::Let { name, rows } => print_let(name, *rows, out),
         Answer::Equal(alike) => print_equal(*alike, out),
+        Answer::Basis(words) => print_basis(words, out),
         Answer::Refused(why) => print_refusal(why, out),
     }
 }
@@ -69,6 +71,52 @@ fn print_equal(alike: bool, out: &mut Vec<u8>) -> Result<(), NoMemory>
     }
 }
 
+// Appends words as an answer.
+fn print_basis(words: &Words, out: &mut Vec<u8>) -> Result<(), NoMemory>
+    requires { HasWordsText words.now }
+    ensures ok { OnOk result (out.new.items ≡ out.old.items ++ answer_text (Answer.Basis words.now)) }
+    ensures err { OnErr result (AddsFront out.old.items out.new.items (answer_text (Answer.Basis words.now))) }
+{
+    write_words(words.as_slice(), out)?;
+    out.push(b'\n')?;
+    Ok(())
+}
+
+// Appends the texts of words, with a space between any two.
+fn write_words(words: &[Word], out: &mut Vec<u8>) -> Result<(), NoMemory>
+    requires { HasWordsText words.now }
+    ensures ok { OnOk result (out.new.items ≡ out.old.items ++ words_text words.now) }
+    ensures err { OnErr result (AddsFront out.old.items out.new.items (words_text words.now)) }
+{
+    let Some((first, others)) = words.split_first() else {
+        return Ok(());
+    };
+    write_word(first, out)?;
+    write_others(others, out)
+}
+
+// Appends the texts of words, each behind a space.
+fn write_others(words: &[Word], out: &mut Vec<u8>) -> Result<(), NoMemory>
+    requires { HasWordsText words.now }
+    ensures ok { OnOk result (out.new.items ≡ out.old.items ++ flat_map spaced_text words.now) }
+    ensures err { OnErr result (AddsFront out.old.items out.new.items (flat_map spaced_text words.now)) }
+{
+    for word in words {
+        write_spaced(word, out)?;
+    }
+    Ok(())
+}
+
+// Appends the text of a word behind a space.
+fn write_spaced(word: &Word, out: &mut Vec<u8>) -> Result<(), NoMemory>
+    requires { HasText word.now }
+    ensures ok { OnOk result (out.new.items ≡ out.old.items ++ spaced_text word.now) }
+    ensures err { OnErr result (AddsFront out.old.items out.new.items (spaced_text word.now)) }
+{
+    out.push(b' ')?;
+    write_word(word, out)
+}
+
 // Appends the text of a refusal.
 fn print_refusal(why: &Refusal, out: &mut Vec<u8>) -> Result<(), NoMemory>
     ensures ok { OnOk result (out.new.items ≡ out.old.items ++ refusal_text why.now) }
@@ -77,22 +125,24 @@ fn print_refusal(why: &Refusal, out: &mut Vec<u8>) -> Result<(), NoMemory>
     match why {
         Refusal::Syntax(column) => write_line(b"refused: syntax ", *column, out),
         Refusal::Group => write_text(b"refused: group\n", out),
-        Refusal::Name(name) => print_unbound(name, out),
+        Refusal::Name(name) => write_named(b"refused: name ", name, out),
         Refusal::Names => write_text(b"refused: names\n", out),
         Refusal::RowsForeign(place) => write_line(b"refused: rows foreign ", *place, out),
         Refusal::RowsFrom => write_text(b"refused: rows from\n", out),
         Refusal::RowsTo => write_text(b"refused: rows to\n", out),
         Refusal::Wide => write_text(b"refused: wide\n", out),
         Refusal::Large { rows, letters } => print_large(*rows, *letters, out),
+        Refusal::Word(place) => write_line(b"refused: word ", *place as usize, out),
+        Refusal::Budget(name) => write_named(b"refused: budget ", name, out),
     }
 }
 
-// Appends the refusal of a name that isn't bound.
-fn print_unbound(name: &Name, out: &mut Vec<u8>) -> Result<(), NoMemory>
-    ensures ok { OnOk result (out.new.items ≡ out.old.items ++ refusal_text (Refusal.Name name.now)) }
-    ensures err { OnErr result (AddsFront out.old.items out.new.items (refusal_text (Refusal.Name name.now))) }
+// Appends a line: a text and a name.
+fn write_named(text: &[u8], name: &Name, out: &mut Vec<u8>) -> Result<(), NoMemory>
+    ensures ok { OnOk result (out.new.items ≡ out.old.items ++ name_line text.now name.now) }
+    ensures err { OnErr result (AddsFront out.old.items out.new.items (name_line text.now name.now)) }
 {
-    out.extend_from_slice(b"refused: name ")?;
+    out.extend_from_slice(text)?;
     out.extend_from_slice(name.as_slice())?;
     out.push(b'\n')?;
     Ok(())

@@ -1,0 +1,25 @@
+use Rattle.std.proofs.Common.{sym, ap, subst}
+use Rattle.std.specs.List.{flat_map}
+use Rattle.std.proofs.lemmas.List.Elements.{All-tail}
+use Rattle.std.proofs.lemmas.Result.{on_err_weaker}
+use Rattle.ht_text.specs.Texts.{HasText, word_text}
+use Rattle.ht_text.specs.Writes.{AddsFront}
+use Rattle.ht_text.proofs.Writing.{adds_within, adds_behind, at_refusal}
+use Rattle.ht_answer.specs.Answers.{HasWordsText, spaced_text, words_text}
+use Rattle.ht_answer.proofs.text.write_words.Goals as goal
+
+pub returns-in_err-write_word-clause-err : goal.returns-in_err-write_word-clause-err
+returns-in_err-write_word-clause-err c =
+    at_refusal c.from_residual.result
+    (subst (λ t. AddsFront c.args.out.now.items c.write_word.new.out.items t) (ap words_text (sym c.in-Some.ensures.cases.0))
+    (adds_within c.args.out.now.items c.write_word.new.out.items (word_text c.in-Some.first.now) (flat_map spaced_text c.in-Some.others.now) c.in_err-write_word.ensures.err))
+
+pub write_others-requires : goal.write_others-requires
+write_others-requires c = All-tail HasText c.in-Some.first.now c.in-Some.others.now (subst HasWordsText c.in-Some.ensures.cases.0 c.requires)
+
+pub returns-clause-err : goal.returns-clause-err
+returns-clause-err c =
+    on_err_weaker c.write_others.result
+    (λ h. subst (λ t. AddsFront c.args.out.now.items c.write_others.new.out.items t) (ap words_text (sym c.in-Some.ensures.cases.0))
+    (adds_behind c.args.out.now.items c.write_word.new.out.items c.write_others.new.out.items (word_text c.in-Some.first.now) (flat_map spaced_text c.in-Some.others.now) c.in_ok-write_word.ensures.ok h))
+    c.write_others.ensures.err
