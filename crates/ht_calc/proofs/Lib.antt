@@ -3,6 +3,7 @@ pub mod Ends
 pub mod FactorLaws
 pub mod Fetching
 pub mod LineLaws
+pub mod ImageTexts
 pub mod LineSizes
 pub mod NameLaws
 pub mod Streams

@@ -17,7 +17,7 @@ use Rattle.ht_pair.proofs.BasisSizes.{root_once, count_roots, few_roots, all_let
 use Rattle.ht_pair.proofs.SizeLaws.{canonical_small}
 use Rattle.ht_text.specs.Texts.{HasText, HasRowText, HasRowsText, letter_code, letters_text, word_text, row_text, ended_text, rows_text}
 use Rattle.ht_script.specs.declared.line.Line.{Line}
-use Rattle.ht_script.specs.declared.line.Line.TheVariants.{Blank, Group, Reduce, LetRows, LetProduct, Show, Equal}
+use Rattle.ht_script.specs.declared.line.Line.TheVariants.{Blank, Group, Reduce, LetRows, LetProduct, Show, Equal, Image, Load}
 use Rattle.ht_script.specs.Tokens.{IsSpaces, Is, IsSpaced, ◌▸◌}
 use Rattle.ht_script.specs.Lines.{AreRows, IsNamed, IsLine}
 use Rattle.ht_calc.specs.ShortLines.{HasShortRows}
@@ -128,3 +128,5 @@ short_rows bytes (LetRows name rows) is few =
 short_rows bytes (LetProduct name factors) is few = tt
 short_rows bytes (Show name) is few = tt
 short_rows bytes (Equal first second) is few = tt
+short_rows bytes (Image name word) is few = tt
+short_rows bytes (Load name file) is few = tt

@@ -14,7 +14,7 @@ use Rattle.ht_script.specs.declared.factor.Factor.{Factor}
 use Rattle.ht_calc.specs.Names.{bind, HasRoom}
 use Rattle.ht_calc.specs.Products.{Term, StandFor, IsLargeProduct}
 use Rattle.ht_calc.specs.States.{State}
-use Rattle.ht_calc.specs.Steps.{Does, Step, blank, group_is_set, group_refused, before_group, reduced, reduce_refused, let_bound, let_no_room, let_refused, product_bound, product_unbound, product_no_room, product_wide, product_large, shown, show_unbound, compared, first_unbound, second_unbound, no_line}
+use Rattle.ht_calc.specs.Steps.{Does, Step, blank, group_is_set, group_refused, before_group, reduced, reduce_refused, let_bound, let_no_room, let_refused, product_bound, product_unbound, product_no_room, product_wide, product_large, shown, show_unbound, compared, first_unbound, second_unbound, image_shown, image_unbound, image_foreign, no_line}
 
 -- a line that is refused changes nothing
 pub refused_keeps : (old : State) (line : Line) (answer : Answer) (new : State) → Does old line answer new → IsRefusal answer → new ≡ old
@@ -37,6 +37,9 @@ refused_keeps old _ _ _ (show_unbound name some none) is = refl
 refused_keeps old _ _ _ (compared first second p q shape alike some first_is second_is told) is = absurd is
 refused_keeps old _ _ _ (first_unbound first second some none) is = refl
 refused_keeps old _ _ _ (second_unbound first second p some first_is none) is = refl
+refused_keeps old _ _ _ (image_shown name word p L shape some found of_shape image) is = absurd is
+refused_keeps old _ _ _ (image_unbound name word some none) is = refl
+refused_keeps old _ _ _ (image_foreign name word p shape some found foreign) is = refl
 
 -- bytes that are no line are refused with the column behind their longest front
 pub syntax_refused : (old : State) (bytes : List ℕ) (column said : ℕ) → said ≡ column → IsNoLine bytes × (k : ℕ) × (column ≡ suc k) × IsLongestFront IsLineText bytes k

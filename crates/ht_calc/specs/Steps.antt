@@ -1,16 +1,21 @@
 -- One step of the calculator: what a line is answered, and what the session remembers then.
--- Where several refusals fit, the first of this order is given: syntax, group, name, names, rows, wide, large.
+-- Where several refusals fit, the first of this order is given: syntax, group, name, names, word, rows,
+-- wide, large, budget.
 --
 --     NeedsGroup line                    the line is any but a blank one and `group`
 --     IsRowsRefusal shape rows why       the refusal says why the rows are no element
+--     rows_from word L                   a row for each entry: from the word and the letters to the entry's word
 --     Does old line answer new           from the state old this line gets this answer and leads to new
 --     Step old bytes made answer new     the same for the bytes of a line, which may be no line, and the fetches that it made
-use Rattle.std.specs.Prelude.{◌≡◌, ◌⊎◌, ◌↔◌, ℕ, suc, List, [], length, Bool, IsTrue, Some, None, IsSome, ⊤}
+use Rattle.std.specs.Prelude.{◌≡◌, ◌⊎◌, ◌↔◌, ℕ, pos, suc, List, [], length, map, Bool, IsTrue, Some, None, IsSome, ⊤}
+use Rattle.ht_word.specs.declared.word.Word.{Word}
 use Rattle.ht_word.specs.declared.shape.Shape.{Shape}
 use Rattle.ht_word.specs.Shapes.{IsShape}
+use Rattle.ht_word.specs.Words.{◌·◌, IsWordOf}
 use Rattle.ht_pair.specs.declared.row.Row.{Row}
 use Rattle.ht_pair.specs.Pairs.{IsPair}
 use Rattle.ht_pair.specs.Actions.{Alike, IsCanonicalFor}
+use Rattle.ht_pair.specs.Images.{Entry, IsImage}
 use Rattle.ht_pair.specs.RowsFaults.{IsFirstForeign, IsFromFault, IsToFault}
 use Rattle.ht_text.specs.Fronts.{IsLongestFront}
 use Rattle.ht_script.specs.declared.line.Line.{Line}
@@ -34,6 +39,8 @@ NeedsGroup (line.LetRows name rows) = ⊤
 NeedsGroup (line.LetProduct name factors) = ⊤
 NeedsGroup (line.Show name) = ⊤
 NeedsGroup (line.Equal first second) = ⊤
+NeedsGroup (line.Image name word) = ⊤
+NeedsGroup (line.Load name file) = ⊤
 
 abbrev pub IsRowsRefusal : Shape → List Row → Refusal → Type 0
 IsRowsRefusal shape rows (refusal.Syntax column) = ⊥
@@ -45,6 +52,11 @@ IsRowsRefusal shape rows refusal.RowsFrom = IsFromFault shape rows
 IsRowsRefusal shape rows refusal.RowsTo = IsToFault shape rows
 IsRowsRefusal shape rows refusal.Wide = ⊥
 IsRowsRefusal shape rows (refusal.Large count letters) = ⊥
+IsRowsRefusal shape rows (refusal.Word place) = ⊥
+IsRowsRefusal shape rows (refusal.Budget name) = ⊥
+
+abbrev pub rows_from : Word → List Entry → List Row
+rows_from word L = map (λ (e : Entry). record { from = word · e.letters; to = e.word }) L
 
 pub data Does (old : State) : Line → Answer → State → Type 0 where
   blank : Does old line.Blank Blank old
@@ -72,6 +84,10 @@ pub data Does (old : State) : Line → Answer → State → Type 0 where
       → Does old (line.Equal first second) (Equal alike) old
   first_unbound : (first second : List ℕ) → IsSome old.shape → bound old.names first ≡ None → Does old (line.Equal first second) (Refused (refusal.Name first)) old
   second_unbound : (first second : List ℕ) (p : List Row) → IsSome old.shape → bound old.names first ≡ Some p → bound old.names second ≡ None → Does old (line.Equal first second) (Refused (refusal.Name second)) old
+  image_shown : (name : List ℕ) (word : Word) (p : List Row) (L : List Entry) (shape : Shape) → old.shape ≡ Some shape → bound old.names name ≡ Some p → IsWordOf shape word → IsImage shape p (pos 1) word L
+      → Does old (line.Image name word) (Pair (rows_from word L)) old
+  image_unbound : (name : List ℕ) (word : Word) → IsSome old.shape → bound old.names name ≡ None → Does old (line.Image name word) (Refused (refusal.Name name)) old
+  image_foreign : (name : List ℕ) (word : Word) (p : List Row) (shape : Shape) → old.shape ≡ Some shape → bound old.names name ≡ Some p → ¬ IsWordOf shape word → Does old (line.Image name word) (Refused (refusal.Word 1)) old
 
 -- bytes that are no line are refused with the column behind their longest front that some line has
 pub data Step (old : State) (bytes : List ℕ) : List Fetched → Answer → State → Type 0 where

@@ -12,12 +12,14 @@
 //! - `bindings`: what is bound to names
 //! - `product`: products of powers of bound elements
 //! - `words`: the words of the command line
+//! - `question`: what an element is asked
 #![tactic(auto)]
 
 mod answering;
 mod bindings;
 mod lines;
 mod product;
+mod question;
 mod script;
 mod session;
 mod status;

@@ -16,11 +16,12 @@ ghost use Rattle.ht_calc.specs.Steps.{IsRowsRefusal, Does, Step};
 
 use crate::bindings::Bindings;
 use crate::product::{first_unbound, has_wide, product_of};
+use crate::question::image_rows;
 use ht_answer::{Answer, Refusal};
 use ht_out::Library;
 use ht_pair::{Element, OpFault, Rows, RowsFault};
 use ht_script::{Factors, Line, LineFault, read_line};
-use ht_word::{Name, NoMemory, Shape};
+use ht_word::{Name, NoMemory, Shape, Word};
 use std::alloc::Global;
 use std::marker::Model;
 
@@ -29,20 +30,21 @@ use std::marker::Model;
 #[derive(Drop)]
 pub struct Session {
     shape: Option<Shape>,
+    // from 1 to 65,536
     budget: u32,
     // elements of the shape; none without one
     names: Bindings,
 }
 
 impl Model for Session {
-    ghost use Rattle.ht_calc.specs.Names.{rows_by_name, AreOfShape};
-    ghost use Rattle.ht_calc.specs.States.{State};
+    ghost use Rattle.ht_calc.specs.Names.{rows_by_name};
+    ghost use Rattle.ht_calc.specs.States.{State, IsHeld};
 
     ghost Value = { State };
 
     ghost view = { λ session. record { shape = session.shape; budget = session.budget; names = rows_by_name session.names } };
 
-    ghost invariant = { λ session. AreOfShape session.shape session.names };
+    ghost invariant = { λ session. IsHeld session.shape session.budget session.names };
 }
 
 impl Session {
@@ -100,6 +102,7 @@ impl Session {
             Line::LetProduct { name, factors } => self.bind_product(alloc, name, factors),
             Line::Show(name) => self.show(alloc, name),
             Line::Equal(first, second) => Ok(self.compare(first, second)),
+            Line::Image { name, word } => self.image(alloc, name, word),
         }
     }
 
@@ -233,6 +236,22 @@ impl Session {
             return Answer::Refused(Refusal::Name(second));
         };
         Answer::Equal(element.same(other))
+    }
+
+    fn image(&self, alloc: Global, name: Name, word: Word) -> Result<Answer, NoMemory>
+        ensures step { IfOk result (λ answer. Does self.now (line.Image name word) answer self.now) }
+        ensures text { IfOk result HasAnswerText }
+    {
+        let Some(shape) = self.shape else {
+            return Ok(Answer::Refused(Refusal::Group));
+        };
+        let Some(element) = self.names.get(&name) else {
+            return Ok(Answer::Refused(Refusal::Name(name)));
+        };
+        if !shape.holds(&word) {
+            return Ok(Answer::Refused(Refusal::Word(1)));
+        }
+        Ok(Answer::Pair(image_rows(alloc, element, word)?))
     }
 }
 

@@ -1,5 +1,5 @@
--- The rows of an element have texts.
-use Rattle.std.proofs.Common.{ℕ, List, arith}
+-- Words of a shape and the rows of an element have texts.
+use Rattle.std.proofs.Common.{ℕ, List, All, arith}
 use Rattle.std.proofs.lemmas.List.Elements.{All-contains}
 use Rattle.ht_word.specs.declared.word.Word.{Word}
 use Rattle.ht_word.specs.declared.shape.Shape.{Shape}
@@ -12,7 +12,7 @@ use Rattle.ht_pair.proofs.BasisLaws.{basis_word}
 use Rattle.ht_text.specs.Texts.{IsDigitLetter, HasText, HasRowText, HasRowsText}
 
 -- a word of a shape has a text
-word_has_text : (shape : Shape) (w : Word) → IsWordOf shape w → HasText w
+pub word_has_text : (shape : Shape) (w : Word) → IsWordOf shape w → HasText w
 word_has_text shape w h = record {
   root_low = h.root_low;
   root_high = omega (arith, h.root_high, shape.roots_high);
@@ -21,6 +21,9 @@ word_has_text shape w h = record {
   where
     within : (a : ℕ) → IsLetter shape a → IsDigitLetter a
     within a l = (l.0, omega (arith, l.1, shape.letters_high))
+
+pub words_have_texts : (shape : Shape) (words : List Word) → All (IsWordOf shape) words → All HasText words
+words_have_texts shape words h = All-from_contains HasText words (λ w c. word_has_text shape w (All-contains (IsWordOf shape) words w h c))
 
 -- the rows of a pair have texts
 pub pair_has_texts : (shape : Shape) (rows : List Row) → IsPair shape rows → HasRowsText rows

@@ -8,8 +8,12 @@ use Rattle.ht_calc.proofs.session.Session.bind_element.Goals as goal
 pub invariant_of-self-2 : goal.invariant_of-self-2
 invariant_of-self-2 c =
     let shape_is : Some (c.args.element.shape) ≡ c.self.inside.shape = search rules in
-    still_of_shape c.self.inside.shape c.self.inside.names c.bind.new.self c.args.name c.args.element c.bind.result c.self.invariant
-    (record { shape_is = shape_is; pair = search rules }) c.bind.ensures.ok c.bind.ensures.err
+    record {
+      of_shape = still_of_shape c.self.inside.shape c.self.inside.names c.bind.new.self c.args.name c.args.element c.bind.result c.self.invariant.of_shape
+          (record { shape_is = shape_is; pair = search rules }) c.bind.ensures.ok c.bind.ensures.err;
+      budget_low = c.self.invariant.budget_low;
+      budget_high = c.self.invariant.budget_high;
+    }
 
 pub returns-clause-bound : goal.returns-clause-bound
 returns-clause-bound c =

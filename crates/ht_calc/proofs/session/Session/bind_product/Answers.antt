@@ -45,13 +45,13 @@ returns-then-has_wide-clause-step c =
 
 pub product_of-requires : goal.product_of-requires
 product_of-requires c =
-    line_terms c.self.inside.shape c.in-Some.shape c.self.inside.names c.as_slice-factors.result.now (search rules) c.self.invariant
+    line_terms c.self.inside.shape c.in-Some.shape c.self.inside.names c.as_slice-factors.result.now (search rules) c.self.invariant.of_shape
     c.in_default-first_unbound.ensures (λ wide. true≢false (sym (c.if-has_wide.ensures.1 wide)))
 
 pub bind_element-requires : goal.bind_element-requires
 bind_element-requires c =
     let some : c.self.inside.shape ≡ Some c.in-Some.shape = search rules in
-    let terms = line_terms c.self.inside.shape c.in-Some.shape c.self.inside.names c.as_slice-factors.result.now some c.self.invariant
+    let terms = line_terms c.self.inside.shape c.in-Some.shape c.self.inside.names c.as_slice-factors.result.now some c.self.invariant.of_shape
     c.in_default-first_unbound.ensures (λ wide. true≢false (sym (c.if-has_wide.ensures.1 wide))) in
     record { of_shape = sym (ap (λ (s : State). s.shape) c.self.view_is) ∙ some ∙ ap (λ (s : Shape). Some s) (sym (c.in-Ok.ensures.product terms.0 terms.1).0) }
 
@@ -61,7 +61,7 @@ returns-in-Ok-clause-step c =
     let shape = c.in-Some.shape in
     let rows = c.in-Ok.element.rows in
     let some : c.self.inside.shape ≡ Some c.in-Some.shape = search rules in
-    let terms = line_terms c.self.inside.shape shape names c.as_slice-factors.result.now some c.self.invariant
+    let terms = line_terms c.self.inside.shape shape names c.as_slice-factors.result.now some c.self.invariant.of_shape
     c.in_default-first_unbound.ensures (λ wide. true≢false (sym (c.if-has_wide.ensures.1 wide))) in
     let product = c.in-Ok.ensures.product terms.0 terms.1 in
     element_bound c.args.self.now c.bind_element.new.self (line.LetProduct c.args.name c.args.factors) c.args.name rows c.bind_element.result
@@ -76,7 +76,7 @@ returns-in-Err-Large-clause-step c =
     let names = c.self.inside.names in
     let shape = c.in-Some.shape in
     let some : c.self.inside.shape ≡ Some c.in-Some.shape = search rules in
-    let terms = line_terms c.self.inside.shape shape names c.as_slice-factors.result.now some c.self.invariant
+    let terms = line_terms c.self.inside.shape shape names c.as_slice-factors.result.now some c.self.invariant.of_shape
     c.in_default-first_unbound.ensures (λ wide. true≢false (sym (c.if-has_wide.ensures.1 wide))) in
     large_refused (record { shape = c.self.inside.shape; budget = c.self.inside.budget; names = rows_by_name names }) c.args.self.now c.args.name c.args.factors terms.0 c.in-Err-Large.rows c.in-Err-Large.letters _ _ shape
     c.self.view_is c.in-Err-Large.rows-is c.in-Err-Large.letters-is some (line_terms_stand shape names c.args.factors c.as_slice-factors.result.now terms.0 c.as_slice-factors.ensures terms.1)

@@ -24,13 +24,13 @@ returns-in_default-get-clause-step c =
 
 pub same-requires : goal.same-requires
 same-requires c =
-    let first = (bound_of_shape c.self.inside.shape c.self.inside.names c.args.first c.in-Some.element.now c.self.invariant c.in-Some.ensures).shape_is in
-    let second = (bound_of_shape c.self.inside.shape c.self.inside.names c.args.second c.in-Some-get.other.now c.self.invariant c.in-Some-get.ensures).shape_is in
+    let first = (bound_of_shape c.self.inside.shape c.self.inside.names c.args.first c.in-Some.element.now c.self.invariant.of_shape c.in-Some.ensures).shape_is in
+    let second = (bound_of_shape c.self.inside.shape c.self.inside.names c.args.second c.in-Some-get.other.now c.self.invariant.of_shape c.in-Some-get.ensures).shape_is in
     cc
 
 pub returns-clause-step : goal.returns-clause-step
 returns-clause-step c =
     subst (λ (s : State). Does s (line.Equal c.args.first c.args.second) (Equal c.same.result) s) c.self.view_is
     (compared c.args.first c.args.second c.in-Some.element.now.rows c.in-Some-get.other.now.rows c.in-Some.element.now.shape c.same.result
-    (sym (bound_of_shape c.self.inside.shape c.self.inside.names c.args.first c.in-Some.element.now c.self.invariant c.in-Some.ensures).shape_is)
+    (sym (bound_of_shape c.self.inside.shape c.self.inside.names c.args.first c.in-Some.element.now c.self.invariant.of_shape c.in-Some.ensures).shape_is)
     (bound_rows c.self.inside.names c.args.first ∙ ap rows_of c.in-Some.ensures) (bound_rows c.self.inside.names c.args.second ∙ ap rows_of c.in-Some-get.ensures) c.same.ensures.alike)
