@@ -3,6 +3,7 @@
 //! - `memory`: calls succeed where there is memory
 //! - `limits`: elements of the greatest size, and just past it
 //! - `operations`: products, inverses and powers
+//! - `images`: images of words
 //! - `files`: element files
 //! - `bases`: bases, and quasinormal bases
 #![tactic(auto)]
@@ -11,6 +12,8 @@
 mod bases;
 #[cfg(test)]
 mod files;
+#[cfg(test)]
+mod images;
 #[cfg(test)]
 mod limits;
 #[cfg(test)]
