@@ -10,7 +10,7 @@ use Rattle.ht_text.specs.Texts.{rows_text}
 use Rattle.ht_text.specs.Writes.{AddsFront}
 use Rattle.ht_text.proofs.Writing.{adds_within, adds_behind}
 use Rattle.ht_answer.specs.declared.answer.Answer.{Answer}
-use Rattle.ht_answer.specs.declared.answer.Answer.TheVariants.{Blank, Group, Pair, Let, Equal, Basis, Refused}
+use Rattle.ht_answer.specs.declared.answer.Answer.TheVariants.{Blank, Group, Pair, Let, Load, Equal, Basis, Refused}
 use Rattle.ht_answer.specs.declared.answer.Refusal.{Refusal}
 use Rattle.ht_answer.specs.declared.answer.Refusal.TheVariants as refusal
 use Rattle.ht_answer.specs.Answers.{IsRefusal, number_line, spaced_text, words_text, answer_text}
@@ -25,6 +25,9 @@ refusal_begins (refusal.Syntax column) = (codes "syntax " ++ decimal column ++ c
 refusal_begins refusal.Group = (codes "group\n", refl)
 refusal_begins (refusal.Name name) = (codes "name " ++ name ++ codes "\n", refl)
 refusal_begins refusal.Names = (codes "names\n", refl)
+refusal_begins refusal.File = (codes "file\n", refl)
+refusal_begins (refusal.Form l) = (codes "file form " ++ decimal l ++ codes "\n", refl)
+refusal_begins refusal.Shape = (codes "file shape\n", refl)
 refusal_begins (refusal.RowsForeign place) = (codes "rows foreign " ++ decimal place ++ codes "\n", refl)
 refusal_begins refusal.RowsFrom = (codes "rows from\n", refl)
 refusal_begins refusal.RowsTo = (codes "rows to\n", refl)
@@ -57,6 +60,7 @@ begins_refused Blank rest e = no_empty _ _ e
 begins_refused (Group n r) rest e = other_head 103 114 _ _ (λ same. absurd (omega arith)) e
 begins_refused (Pair rows) rest e = rows_begin rows (codes "efused: " ++ rest) e
 begins_refused (Let name rows) rest e = other_head 108 114 _ _ (λ same. absurd (omega arith)) e
+begins_refused (Load name rows) rest e = other_head 108 114 _ _ (λ same. absurd (omega arith)) e
 begins_refused (Equal true) rest e = other_head 121 114 _ _ (λ same. absurd (omega arith)) e
 begins_refused (Equal false) rest e = other_head 110 114 _ _ (λ same. absurd (omega arith)) e
 begins_refused (Basis words) rest e = words_begin words (codes "efused: " ++ rest) e
@@ -68,6 +72,7 @@ refusal_text_begins Blank h = absurd h
 refusal_text_begins (Group n r) h = absurd h
 refusal_text_begins (Pair rows) h = absurd h
 refusal_text_begins (Let name rows) h = absurd h
+refusal_text_begins (Load name rows) h = absurd h
 refusal_text_begins (Equal alike) h = absurd h
 refusal_text_begins (Basis words) h = absurd h
 refusal_text_begins (Refused why) h = refusal_begins why

@@ -13,7 +13,7 @@ use Rattle.std.specs.Prelude.{◌≢◌, true, false, ℕ, List, [], ◌∷◌, 
 use Rattle.std.specs.List.{flat_map}
 use Rattle.ht_word.specs.declared.word.Word.{Word}
 use Rattle.ht_answer.specs.declared.answer.Answer.{Answer}
-use Rattle.ht_answer.specs.declared.answer.Answer.TheVariants.{Blank, Group, Pair, Let, Equal, Basis, Refused}
+use Rattle.ht_answer.specs.declared.answer.Answer.TheVariants.{Blank, Group, Pair, Let, Load, Equal, Basis, Refused}
 use Rattle.ht_answer.specs.declared.answer.Refusal.{Refusal}
 use Rattle.ht_answer.specs.declared.answer.Refusal.TheVariants as refusal
 use Rattle.ht_text.specs.Texts.{HasText, HasRowsText, word_text, rows_text}
@@ -23,6 +23,7 @@ IsRefusal Blank = ⊥
 IsRefusal (Group n r) = ⊥
 IsRefusal (Pair rows) = ⊥
 IsRefusal (Let name rows) = ⊥
+IsRefusal (Load name rows) = ⊥
 IsRefusal (Equal alike) = ⊥
 IsRefusal (Basis words) = ⊥
 IsRefusal (Refused why) = Unit {0}
@@ -35,6 +36,7 @@ HasAnswerText Blank = Unit {0}
 HasAnswerText (Group n r) = Unit {0}
 HasAnswerText (Pair rows) = HasRowsText rows
 HasAnswerText (Let name rows) = Unit {0}
+HasAnswerText (Load name rows) = Unit {0}
 HasAnswerText (Equal alike) = Unit {0}
 HasAnswerText (Basis words) = (words ≢ []) × HasWordsText words
 HasAnswerText (Refused why) = Unit {0}
@@ -57,6 +59,9 @@ refusal_text (refusal.Syntax column) = number_line (codes "refused: syntax ") co
 refusal_text refusal.Group = codes "refused: group\n"
 refusal_text (refusal.Name name) = name_line (codes "refused: name ") name
 refusal_text refusal.Names = codes "refused: names\n"
+refusal_text refusal.File = codes "refused: file\n"
+refusal_text (refusal.Form l) = number_line (codes "refused: file form ") l
+refusal_text refusal.Shape = codes "refused: file shape\n"
 refusal_text (refusal.RowsForeign place) = number_line (codes "refused: rows foreign ") place
 refusal_text refusal.RowsFrom = codes "refused: rows from\n"
 refusal_text refusal.RowsTo = codes "refused: rows to\n"
@@ -70,6 +75,7 @@ answer_text Blank = []
 answer_text (Group n r) = codes "group " ++ decimal n ++ number_line (codes " ") r
 answer_text (Pair rows) = rows_text rows ++ codes "\n"
 answer_text (Let name rows) = codes "let " ++ name ++ number_line (codes " ") rows
+answer_text (Load name rows) = codes "load " ++ name ++ number_line (codes " ") rows
 answer_text (Equal true) = codes "yes\n"
 answer_text (Equal false) = codes "no\n"
 answer_text (Basis words) = words_text words ++ codes "\n"

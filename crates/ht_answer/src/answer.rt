@@ -16,6 +16,8 @@ pub enum Answer {
     Pair(Rows),
     /// To `let`: the name, and the number of rows of its canonical pair.
     Let { name: Name, rows: usize },
+    /// To `load`: the name, and the number of rows of its canonical pair.
+    Load { name: Name, rows: usize },
     /// To `equal`: whether the two elements act alike.
     Equal(bool),
     /// To `basis`: the words of the basis asked for, at least one.
@@ -35,6 +37,13 @@ pub enum Refusal {
     Name(Name),
     /// There is no room for one more name.
     Names,
+    /// The file couldn't be read.
+    File,
+    /// The bytes of the file are no file of an element: 0 for more than 4,194,304 bytes, else 1 plus
+    /// the greatest number of leading whole lines that lead some file.
+    Form(usize),
+    /// The file is of another group.
+    Shape,
     /// The row of this number, from 1, is the first with a word that isn't of the group's shape.
     RowsForeign(usize),
     /// The `from` words of the rows aren't a basis.

@@ -21,7 +21,8 @@ pub fn print(answer: &Answer, out: &mut Vec<u8>) -> Result<(), NoMemory>
         Answer::Blank => Ok(()),
         Answer::Group { n, r } => print_group(*n, *r, out),
         Answer::Pair(rows) => print_pair(rows, out),
-        Answer::Let { name, rows } => print_let(name, *rows, out),
+        Answer::Let { name, rows } => print_bound(b"let ", name, *rows, out),
+        Answer::Load { name, rows } => print_bound(b"load ", name, *rows, out),
         Answer::Equal(alike) => print_equal(*alike, out),
         Answer::Basis(words) => print_basis(words, out),
         Answer::Refused(why) => print_refusal(why, out),
@@ -49,12 +50,12 @@ fn print_pair(rows: &Rows, out: &mut Vec<u8>) -> Result<(), NoMemory>
     Ok(())
 }
 
-// Appends the answer to `let`.
-fn print_let(name: &Name, rows: usize, out: &mut Vec<u8>) -> Result<(), NoMemory>
-    ensures ok { OnOk result (out.new.items ≡ out.old.items ++ answer_text (Answer.Let name.now rows)) }
-    ensures err { OnErr result (AddsFront out.old.items out.new.items (answer_text (Answer.Let name.now rows))) }
+// Appends the answer to `let` or `load`: the command, the name and the number of its rows.
+fn print_bound(command: &[u8], name: &Name, rows: usize, out: &mut Vec<u8>) -> Result<(), NoMemory>
+    ensures ok { OnOk result (out.new.items ≡ out.old.items ++ (command.now ++ name.now ++ number_line (codes " ") rows)) }
+    ensures err { OnErr result (AddsFront out.old.items out.new.items (command.now ++ name.now ++ number_line (codes " ") rows)) }
 {
-    out.extend_from_slice(b"let ")?;
+    out.extend_from_slice(command)?;
     out.extend_from_slice(name.as_slice())?;
     write_line(b" ", rows, out)
 }
@@ -127,6 +128,9 @@ fn print_refusal(why: &Refusal, out: &mut Vec<u8>) -> Result<(), NoMemory>
         Refusal::Group => write_text(b"refused: group\n", out),
         Refusal::Name(name) => write_named(b"refused: name ", name, out),
         Refusal::Names => write_text(b"refused: names\n", out),
+        Refusal::File => write_text(b"refused: file\n", out),
+        Refusal::Form(line) => write_line(b"refused: file form ", *line, out),
+        Refusal::Shape => write_text(b"refused: file shape\n", out),
         Refusal::RowsForeign(place) => write_line(b"refused: rows foreign ", *place, out),
         Refusal::RowsFrom => write_text(b"refused: rows from\n", out),
         Refusal::RowsTo => write_text(b"refused: rows to\n", out),
