@@ -5,6 +5,7 @@ pub mod Fetching
 pub mod LineLaws
 pub mod ImageTexts
 pub mod LineSizes
+pub mod Loading
 pub mod NameLaws
 pub mod Streams
 pub mod RunLaws

@@ -1,5 +1,5 @@
 -- The rows of a line are never large: their text has too few bytes.
-use Rattle.std.proofs.Common.{◌≡◌, ◌≢◌, ℕ, suc, ◌≤◌, ◌+◌, ◌*◌, inl, inr, List, [], ◌∷◌, ◌++◌, length, ap, arith}
+use Rattle.std.proofs.Common.{◌≡◌, ◌≢◌, ℕ, suc, ◌≤◌, ◌+◌, ◌*◌, inl, inr, List, [], ◌∷◌, ◌++◌, length, ap, subst, arith}
 use Rattle.std.specs.Prelude.{codes, decimal}
 use Rattle.std.proofs.lemmas.Fmt.{decimal_nonempty}
 use Rattle.std.proofs.lemmas.List.{length-append, length-map}
@@ -20,7 +20,8 @@ use Rattle.ht_script.specs.declared.line.Line.{Line}
 use Rattle.ht_script.specs.declared.line.Line.TheVariants.{Blank, Group, Reduce, LetRows, LetProduct, Show, Equal, Image, Load}
 use Rattle.ht_script.specs.Tokens.{IsSpaces, Is, IsSpaced, ◌▸◌}
 use Rattle.ht_script.specs.Lines.{AreRows, IsNamed, IsLine}
-use Rattle.ht_calc.specs.ShortLines.{HasShortRows}
+use Rattle.ht_script.specs.Names.{IsFile}
+use Rattle.ht_calc.specs.ShortLines.{HasShortRows, NamesFile}
 use Rattle.ht_text.proofs.CanonicalTexts.{pair_has_texts}
 
 -- the text has a byte for each letter, and two where there are letters
@@ -130,3 +131,15 @@ short_rows bytes (Show name) is few = tt
 short_rows bytes (Equal first second) is few = tt
 short_rows bytes (Image name word) is few = tt
 short_rows bytes (Load name file) is few = tt
+
+-- a line that loads names a file
+pub names_file : (bytes : List ℕ) (line : Line) → IsLine bytes line → NamesFile line
+names_file bytes Blank is = tt
+names_file bytes (Group n r) is = tt
+names_file bytes (Reduce rows) is = tt
+names_file bytes (LetRows name rows) is = tt
+names_file bytes (LetProduct name factors) is = tt
+names_file bytes (Show name) is = tt
+names_file bytes (Equal first second) is = tt
+names_file bytes (Image name word) is = tt
+names_file bytes (Load name file) is = let named = is.fits.1.fits.1.fits.0 in subst IsFile named.1 named.0

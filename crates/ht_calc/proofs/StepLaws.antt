@@ -1,20 +1,23 @@
 -- Steps, and what they keep.
-use Rattle.std.proofs.Common.{◌≡◌, ℕ, suc, List, [], length, Result, Ok, Err, IfOk, OnOk, Some, refl, sym, ◌∙◌, subst}
+use Rattle.std.proofs.Common.{◌≡◌, ℕ, suc, List, [], ◌∷◌, length, Result, Ok, Err, IfOk, OnOk, Option, Some, refl, sym, ◌∙◌, subst}
 use Rattle.ht_word.specs.declared.shape.Shape.{Shape}
 use Rattle.ht_pair.specs.declared.row.Row.{Row}
 use Rattle.ht_text.specs.Fronts.{IsLongestFront}
 use Rattle.ht_script.specs.declared.line.Line.{Line}
 use Rattle.ht_script.specs.declared.line.Line.TheVariants as line
-use Rattle.ht_script.specs.Lines.{IsNoLine, IsLineText}
+use Rattle.ht_script.specs.Lines.{IsLine, IsNoLine, IsLineText}
 use Rattle.ht_answer.specs.declared.answer.Answer.{Answer}
 use Rattle.ht_answer.specs.declared.answer.Answer.TheVariants.{Let, Refused}
 use Rattle.ht_answer.specs.declared.answer.Refusal.TheVariants as refusal
 use Rattle.ht_answer.specs.Answers.{IsRefusal}
 use Rattle.ht_script.specs.declared.factor.Factor.{Factor}
+use Rattle.ht_calc.specs.Fetches.{Fetched, AreFetches}
+use Rattle.ht_calc.specs.Loads.{Loads, loaded, no_file, file_refused}
 use Rattle.ht_calc.specs.Names.{bind, HasRoom}
 use Rattle.ht_calc.specs.Products.{Term, StandFor, IsLargeProduct}
 use Rattle.ht_calc.specs.States.{State}
-use Rattle.ht_calc.specs.Steps.{Does, Step, blank, group_is_set, group_refused, before_group, reduced, reduce_refused, let_bound, let_no_room, let_refused, product_bound, product_unbound, product_no_room, product_wide, product_large, shown, show_unbound, compared, first_unbound, second_unbound, image_shown, image_unbound, image_foreign, no_line}
+use Rattle.ht_calc.specs.Steps.{Does, Step, blank, group_is_set, group_refused, before_group, reduced, reduce_refused, let_bound, let_no_room, let_refused, product_bound, product_unbound, product_no_room, product_wide, product_large, load_no_room, shown, show_unbound, compared, first_unbound, second_unbound, image_shown, image_unbound, image_foreign, by_line, by_file, no_line}
+use Rattle.ht_calc.proofs.Fetching.{nothing_asked}
 
 -- a line that is refused changes nothing
 pub refused_keeps : (old : State) (line : Line) (answer : Answer) (new : State) → Does old line answer new → IsRefusal answer → new ≡ old
@@ -32,6 +35,7 @@ refused_keeps old _ _ _ (product_unbound name missing factors some first) is = r
 refused_keeps old _ _ _ (product_no_room name factors some are_bound full) is = refl
 refused_keeps old _ _ _ (product_wide name factors some are_bound room wide) is = refl
 refused_keeps old _ _ _ (product_large name factors terms rows letters shape some stand room large) is = refl
+refused_keeps old _ _ _ (load_no_room name file some full) is = refl
 refused_keeps old _ _ _ (shown name rows some found) is = refl
 refused_keeps old _ _ _ (show_unbound name some none) is = refl
 refused_keeps old _ _ _ (compared first second p q shape alike some first_is second_is told) is = absurd is
@@ -40,6 +44,41 @@ refused_keeps old _ _ _ (second_unbound first second p some first_is none) is = 
 refused_keeps old _ _ _ (image_shown name word p L shape some found of_shape image) is = absurd is
 refused_keeps old _ _ _ (image_unbound name word some none) is = refl
 refused_keeps old _ _ _ (image_foreign name word p shape some found foreign) is = refl
+
+-- nor does a file
+refused_load_keeps : (old : State) (name : List ℕ) (gives : Option (List ℕ)) (answer : Answer) (new : State) → Loads old name gives answer new → IsRefusal answer → new ≡ old
+refused_load_keeps old name _ _ _ (loaded bytes rows canonical shape some room is_file pair canonical_for few short) is = absurd is
+refused_load_keeps old name _ _ _ (no_file some room) is = refl
+refused_load_keeps old name _ _ _ (file_refused bytes shape fault why some room says is_why) is = refl
+
+-- a step that ends with a refusal changes nothing
+pub refused_step_keeps : (old : State) (bytes : List ℕ) (made : List Fetched) (answer : Answer) (new : State) → Step old bytes made answer new → IsRefusal answer → new ≡ old
+refused_step_keeps old bytes _ _ _ (by_line line answer new is_line does) is = refused_keeps old line answer new does is
+refused_step_keeps old bytes _ _ _ (by_file name file gives answer new is_line loads) is = refused_load_keeps old name gives answer new loads is
+refused_step_keeps old bytes _ _ _ (no_line k none longest) is = refl
+
+-- a line that asks for no file makes a step with no fetch
+pub alone : (old new : State) (said line : Line) (answer : Answer) (files : Option (List (List ℕ × List ℕ))) (faults : ℕ) (bytes : List ℕ) → said ≡ line → Does old line answer new → IsLine bytes said
+    → (made : List Fetched) × Step old bytes made answer new × AreFetches files faults faults made
+alone old new said line answer files faults bytes same does is = ([], by_line line answer new (subst (IsLine bytes) same is) does, nothing_asked files faults)
+
+pub alone_or_err : {E : Type 0} (old new : State) (said line : Line) (result : Result Answer E) (files : Option (List (List ℕ × List ℕ))) (faults : ℕ) (bytes : List ℕ) → said ≡ line
+    → IfOk result (λ answer. Does old line answer new) → IsLine bytes said → IfOk result (λ answer. (made : List Fetched) × Step old bytes made answer new × AreFetches files faults faults made)
+alone_or_err old new said line (Ok answer) files faults bytes same does is = alone old new said line answer files faults bytes same does is
+alone_or_err old new said line (Err e) files faults bytes same does is = tt
+
+-- a line that loads makes a step with one fetch
+pub fetched : (old new : State) (name file bytes : List ℕ) (said gives : Option (List ℕ)) (answer : Answer) (files : Option (List (List ℕ × List ℕ))) (before now : ℕ) → said ≡ gives
+    → Loads old name gives answer new → IsLine bytes (line.Load name file) → AreFetches files before now (record { file = file; gives = said } ∷ [])
+    → (made : List Fetched) × Step old bytes made answer new × AreFetches files before now made
+fetched old new name file bytes said gives answer files before now same loads is asked =
+    (record { file = file; gives = said } ∷ [], by_file name file said answer new is (subst (λ (g : Option (List ℕ)). Loads old name g answer new) (sym same) loads), asked)
+
+pub fetched_or_err : {E : Type 0} (old new : State) (name file bytes : List ℕ) (said gives : Option (List ℕ)) (result : Result Answer E) (files : Option (List (List ℕ × List ℕ))) (before now : ℕ) → said ≡ gives
+    → IfOk result (λ answer. Loads old name gives answer new) → IsLine bytes (line.Load name file) → AreFetches files before now (record { file = file; gives = said } ∷ [])
+    → IfOk result (λ answer. (made : List Fetched) × Step old bytes made answer new × AreFetches files before now made)
+fetched_or_err old new name file bytes said gives (Ok answer) files before now same loads is asked = fetched old new name file bytes said gives answer files before now same loads is asked
+fetched_or_err old new name file bytes said gives (Err e) files before now same loads is asked = tt
 
 -- bytes that are no line are refused with the column behind their longest front
 pub syntax_refused : (old : State) (bytes : List ℕ) (column said : ℕ) → said ≡ column → IsNoLine bytes × (k : ℕ) × (column ≡ suc k) × IsLongestFront IsLineText bytes k

@@ -7,6 +7,7 @@ pub mod Products
 pub mod Terms
 pub mod States
 pub mod Fetches
+pub mod Loads
 pub mod Steps
 pub mod ScriptLines
 pub mod Runs

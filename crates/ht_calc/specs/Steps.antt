@@ -1,13 +1,13 @@
 -- One step of the calculator: what a line is answered, and what the session remembers then.
--- Where several refusals fit, the first of this order is given: syntax, group, name, names, word, rows,
--- wide, large, budget.
+-- Where several refusals fit, the first of this order is given: syntax, group, name, names, word, file,
+-- rows, wide, large, budget.
 --
 --     NeedsGroup line                    the line is any but a blank one and `group`
 --     IsRowsRefusal shape rows why       the refusal says why the rows are no element
 --     rows_from word L                   a row for each entry: from the word and the letters to the entry's word
 --     Does old line answer new           from the state old this line gets this answer and leads to new
---     Step old bytes made answer new     the same for the bytes of a line, which may be no line, and the fetches that it made
-use Rattle.std.specs.Prelude.{◌≡◌, ◌⊎◌, ◌↔◌, ℕ, pos, suc, List, [], length, map, Bool, IsTrue, Some, None, IsSome, ⊤}
+--     Step old bytes made answer new     the same for the bytes of a line, which may be no line, and the fetches that it made: one where a load has its group and room for its name, else none
+use Rattle.std.specs.Prelude.{◌≡◌, ◌⊎◌, ◌↔◌, ℕ, pos, suc, List, [], ◌∷◌, length, map, Bool, IsTrue, Option, Some, None, IsSome, ⊤}
 use Rattle.ht_word.specs.declared.word.Word.{Word}
 use Rattle.ht_word.specs.declared.shape.Shape.{Shape}
 use Rattle.ht_word.specs.Shapes.{IsShape}
@@ -27,6 +27,7 @@ use Rattle.ht_answer.specs.declared.answer.Answer.TheVariants.{Blank, Group, Pai
 use Rattle.ht_answer.specs.declared.answer.Refusal.{Refusal}
 use Rattle.ht_answer.specs.declared.answer.Refusal.TheVariants as refusal
 use Rattle.ht_calc.specs.Fetches.{Fetched}
+use Rattle.ht_calc.specs.Loads.{Loads}
 use Rattle.ht_calc.specs.Names.{bound, bind, HasRoom}
 use Rattle.ht_calc.specs.Products.{Term, StandFor, AreBound, IsFirstUnbound, HasWide, IsProductOf, IsLargeProduct}
 use Rattle.ht_calc.specs.States.{State}
@@ -47,6 +48,9 @@ IsRowsRefusal shape rows (refusal.Syntax column) = ⊥
 IsRowsRefusal shape rows refusal.Group = ⊥
 IsRowsRefusal shape rows (refusal.Name name) = ⊥
 IsRowsRefusal shape rows refusal.Names = ⊥
+IsRowsRefusal shape rows refusal.File = ⊥
+IsRowsRefusal shape rows (refusal.Form l) = ⊥
+IsRowsRefusal shape rows refusal.Shape = ⊥
 IsRowsRefusal shape rows (refusal.RowsForeign place) = IsFirstForeign shape rows place
 IsRowsRefusal shape rows refusal.RowsFrom = IsFromFault shape rows
 IsRowsRefusal shape rows refusal.RowsTo = IsToFault shape rows
@@ -78,6 +82,7 @@ pub data Does (old : State) : Line → Answer → State → Type 0 where
   product_wide : (name : List ℕ) (factors : List Factor) → IsSome old.shape → AreBound old.names factors → HasRoom old.names name → HasWide factors → Does old (line.LetProduct name factors) (Refused refusal.Wide) old
   product_large : (name : List ℕ) (factors : List Factor) (terms : List Term) (rows letters : ℕ) (shape : Shape) → old.shape ≡ Some shape → StandFor old.names factors terms → HasRoom old.names name
       → IsLargeProduct shape terms rows letters → Does old (line.LetProduct name factors) (Refused (refusal.Large rows letters)) old
+  load_no_room : (name file : List ℕ) → IsSome old.shape → ¬ HasRoom old.names name → Does old (line.Load name file) (Refused refusal.Names) old
   shown : (name : List ℕ) (rows : List Row) → IsSome old.shape → bound old.names name ≡ Some rows → Does old (line.Show name) (Pair rows) old
   show_unbound : (name : List ℕ) → IsSome old.shape → bound old.names name ≡ None → Does old (line.Show name) (Refused (refusal.Name name)) old
   compared : (first second : List ℕ) (p q : List Row) (shape : Shape) (alike : Bool) → old.shape ≡ Some shape → bound old.names first ≡ Some p → bound old.names second ≡ Some q → IsTrue alike ↔ Alike shape p q
@@ -92,4 +97,5 @@ pub data Does (old : State) : Line → Answer → State → Type 0 where
 -- bytes that are no line are refused with the column behind their longest front that some line has
 pub data Step (old : State) (bytes : List ℕ) : List Fetched → Answer → State → Type 0 where
   by_line : (line : Line) (answer : Answer) (new : State) → IsLine bytes line → Does old line answer new → Step old bytes [] answer new
+  by_file : (name file : List ℕ) (gives : Option (List ℕ)) (answer : Answer) (new : State) → IsLine bytes (line.Load name file) → Loads old name gives answer new → Step old bytes (record { file = file; gives = gives } ∷ []) answer new
   no_line : (k : ℕ) → IsNoLine bytes → IsLongestFront IsLineText bytes k → Step old bytes [] (Refused (refusal.Syntax (suc k))) old

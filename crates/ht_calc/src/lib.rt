@@ -9,6 +9,7 @@
 //! - `answering`: lines to answers
 //! - `status`: how a run ends
 //! - `session`: what is remembered from line to line
+//! - `load`: elements from files
 //! - `bindings`: what is bound to names
 //! - `product`: products of powers of bound elements
 //! - `words`: the words of the command line
@@ -18,6 +19,7 @@
 mod answering;
 mod bindings;
 mod lines;
+mod load;
 mod product;
 mod question;
 mod script;

@@ -7,9 +7,10 @@ ghost use Rattle.ht_pair.specs.Actions.{IsCanonical};
 ghost use Rattle.ht_pair.specs.RowsFaults.{IsRowsFault};
 ghost use Rattle.ht_text.specs.Texts.{rows_text};
 ghost use Rattle.ht_script.specs.declared.line.Line.TheVariants as line;
+ghost use Rattle.ht_script.specs.Lines.{IsLine};
 ghost use Rattle.ht_answer.specs.Answers.{IsRefusal, HasAnswerText};
 ghost use Rattle.ht_calc.specs.Fetches.{Fetched, AreFetches};
-ghost use Rattle.ht_calc.specs.ShortLines.{HasShortRows};
+ghost use Rattle.ht_calc.specs.ShortLines.{HasShortRows, NamesFile};
 ghost use Rattle.ht_calc.specs.Names.{bind};
 ghost use Rattle.ht_calc.specs.States.{start};
 ghost use Rattle.ht_calc.specs.Steps.{IsRowsRefusal, Does, Step};
@@ -29,11 +30,11 @@ use std::marker::Model;
 /// that are bound.
 #[derive(Drop)]
 pub struct Session {
-    shape: Option<Shape>,
+    pub(crate) shape: Option<Shape>,
     // from 1 to 65,536
     budget: u32,
     // elements of the shape; none without one
-    names: Bindings,
+    pub(crate) names: Bindings,
 }
 
 impl Model for Session {
@@ -63,7 +64,10 @@ impl Session {
     /// Answers one line, without its line feed. After a refused answer, and after want of memory,
     /// the session is as before. `reduce` and `let` take as long as the sorting of their rows, and
     /// `show` as long as the copying of its rows. `equal` makes one pass over the rows. A `let` with
-    /// factors makes one power for each factor, and one product for each factor but the first.
+    /// factors makes one power for each factor, and one product for each factor but the first. A
+    /// `load` makes one fetch, once the group is set and there is room for the name, and no other
+    /// line makes any: it takes memory for the bytes of the file, at most 4,194,305, and a few passes
+    /// over them, and as long as the sorting of the file's rows.
     pub fn answer<L: Library>(
         &mut self,
         alloc: Global,
@@ -81,18 +85,27 @@ impl Session {
         ensures later { L.faults files.old ≤ L.faults files.new }
     {
         match read_line(alloc, line) {
-            Ok(line) => self.answer_to(alloc, line),
+            Ok(line) => self.answer_to(alloc, line, files),
             Err(LineFault::Syntax { column }) => Ok(Answer::Refused(Refusal::Syntax(column))),
             Err(LineFault::NoMemory) => Err(NoMemory),
         }
     }
 
     // Answers a line of the grammar.
-    fn answer_to(&mut self, alloc: Global, line: Line) -> Result<Answer, NoMemory>
-        requires { HasShortRows line }
-        ensures step { IfOk result (λ answer. Does self.old line answer self.new) }
+    fn answer_to<L: Library>(
+        &mut self,
+        alloc: Global,
+        line: Line,
+        files: &mut L,
+    ) -> Result<Answer, NoMemory>
+        requires short { HasShortRows line }
+        requires file { NamesFile line }
+        ensures step { (bytes : List ℕ) → IsLine bytes line → IfOk result (λ answer. (made : List Fetched) × Step self.old bytes made answer self.new
+            × AreFetches (L.files files.old) (L.faults files.old) (L.faults files.new) made) }
         ensures text { IfOk result HasAnswerText }
         ensures err { OnErr result (self.new ≡ self.old) }
+        ensures files { L.files files.new ≡ L.files files.old }
+        ensures later { L.faults files.old ≤ L.faults files.new }
     {
         match line {
             Line::Blank => Ok(Answer::Blank),
@@ -103,6 +116,7 @@ impl Session {
             Line::Show(name) => self.show(alloc, name),
             Line::Equal(first, second) => Ok(self.compare(first, second)),
             Line::Image { name, word } => self.image(alloc, name, word),
+            Line::Load { name, file } => self.load(alloc, name, &file, files),
         }
     }
 
@@ -205,8 +219,18 @@ impl Session {
             name: name.copy(alloc)?,
             rows,
         };
-        self.names.bind(name, element)?;
+        self.bind(name, element)?;
         Ok(answer)
+    }
+
+    // Binds the name to the element. A name that is bound keeps its place.
+    pub(crate) fn bind(&mut self, name: Name, element: Element) -> Result<(), NoMemory>
+        requires of_shape { self.old.shape ≡ Some (element.shape) }
+        ensures bound { OnOk result (self.new ≡ record self.old { names = bind self.old.names name element.rows }) }
+        ensures err { OnErr result (self.new ≡ self.old) }
+    {
+        self.names.bind(name, element)?;
+        Ok(())
     }
 
     fn show(&self, alloc: Global, name: Name) -> Result<Answer, NoMemory>

@@ -3,7 +3,7 @@ use Rattle.ht_pair.specs.declared.row.Row.{Row}
 use Rattle.ht_calc.specs.Names.{rows_by_name, bind}
 use Rattle.ht_calc.specs.States.{State}
 use Rattle.ht_calc.proofs.NameLaws.{bind_rows, still_of_shape}
-use Rattle.ht_calc.proofs.session.Session.bind_element.Goals as goal
+use Rattle.ht_calc.proofs.session.Session.bind.Goals as goal
 
 pub invariant_of-self-2 : goal.invariant_of-self-2
 invariant_of-self-2 c =
