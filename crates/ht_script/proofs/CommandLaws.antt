@@ -23,14 +23,14 @@ use Rattle.ht_script.proofs.EndingLaws.{root_text, root_is, ending_before, some_
 
 -- every command
 abbrev pub commands : List Command
-commands = command.Group ∷ command.Reduce ∷ command.Let ∷ command.Show ∷ command.Equal ∷ command.Image ∷ command.Load ∷ []
+commands = command.Group ∷ command.Reduce ∷ command.Let ∷ command.Show ∷ command.Equal ∷ command.Image ∷ command.Load ∷ command.Basis ∷ []
 
 -- the word of the command at a place
 abbrev pub word_at : ℕ → List ℕ
 word_at k = keyword (get_or commands k command.Group)
 
 -- where a command stands among all
-place_of : (c : Command) → (k : ℕ) × (k < 7) × (keyword c ≡ word_at k)
+place_of : (c : Command) → (k : ℕ) × (k < 8) × (keyword c ≡ word_at k)
 place_of command.Group = (0, omega arith, refl)
 place_of command.Reduce = (1, omega arith, refl)
 place_of command.Let = (2, omega arith, refl)
@@ -38,13 +38,14 @@ place_of command.Show = (3, omega arith, refl)
 place_of command.Equal = (4, omega arith, refl)
 place_of command.Image = (5, omega arith, refl)
 place_of command.Load = (6, omega arith, refl)
+place_of command.Basis = (7, omega arith, refl)
 
 -- a test that two texts differ
 pub differs : (token word : List ℕ) (same : Bool) → same ≡ pointwise eqb token word → same ≡ false → token ≢ word
 differs token word same test is e = true≢false (sym ((bytes_decides token word).1 e) ∙ sym test ∙ is)
 
 -- a token that is the word of no command
-pub no_keyword : (token : List ℕ) (n : ℕ) → 7 ≤ n → ((k : ℕ) → k < n → token ≢ word_at k) → ¬ IsKeyword token
+pub no_keyword : (token : List ℕ) (n : ℕ) → 8 ≤ n → ((k : ℕ) → k < n → token ≢ word_at k) → ¬ IsKeyword token
 no_keyword token n all none h = let at = place_of h.0 in none at.0 (omega (arith, at.1)) (h.1 ∙ at.2)
 
 -- the longest front that the words of the first n commands have
@@ -82,7 +83,7 @@ longest_of_new token n most next h g more = longest_of_next token n most next ne
 pub longest_of_old : (token : List ℕ) (n most next : ℕ) → IsLongestOf token n most → IsLongestFront (Is (word_at n)) token next → next ≤ most → IsLongestOf token (n + 1) most
 longest_of_old token n most next h g less = longest_of_next token n most next most h g (omega arith) less (inl refl)
 
-pub longest_of_all : (token : List ℕ) (n most : ℕ) → 7 ≤ n → IsLongestOf token n most → IsLongestFront IsKeyword token most
+pub longest_of_all : (token : List ℕ) (n most : ℕ) → 8 ≤ n → IsLongestOf token n most → IsLongestFront IsKeyword token most
 longest_of_all token n most all h = record {
   within = h.within;
   front = h.front;
@@ -153,6 +154,7 @@ finds command.Show = refl
 finds command.Equal = refl
 finds command.Image = refl
 finds command.Load = refl
+finds command.Basis = refl
 
 -- each command has a word of its own
 pub same_command : (c d : Command) → keyword c ≡ keyword d → c ≡ d
@@ -170,6 +172,7 @@ no_mark command.Show x y e = let same = head_of 115 35 (codes "how" ++ x) y e in
 no_mark command.Equal x y e = let same = head_of 101 35 (codes "qual" ++ x) y e in omega arith
 no_mark command.Image x y e = let same = head_of 105 35 (codes "mage" ++ x) y e in omega arith
 no_mark command.Load x y e = let same = head_of 108 35 (codes "oad" ++ x) y e in omega arith
+no_mark command.Basis x y e = let same = head_of 98 35 (codes "asis" ++ x) y e in omega arith
 
 -- the word of a command is a token
 pub keyword_token : (c : Command) → IsToken (keyword c)
@@ -180,6 +183,7 @@ keyword_token command.Show = record { some = omega arith; no_space = All-from_re
 keyword_token command.Equal = record { some = omega arith; no_space = All-from_recursion (λ b. b ≢ 32) (keyword command.Equal) (search rules) }
 keyword_token command.Image = record { some = omega arith; no_space = All-from_recursion (λ b. b ≢ 32) (keyword command.Image) (search rules) }
 keyword_token command.Load = record { some = omega arith; no_space = All-from_recursion (λ b. b ≢ 32) (keyword command.Load) (search rules) }
+keyword_token command.Basis = record { some = omega arith; no_space = All-from_recursion (λ b. b ≢ 32) (keyword command.Basis) (search rules) }
 
 -- without slots there is the ending
 pub longest_no_slots : (e : Ending) (slots : List Slot) (bytes : List ℕ) (k : ℕ) → length slots ≡ 0 → IsLongestFront (IsEnding e) bytes k → IsLongestFront (IsBehind e slots) bytes k

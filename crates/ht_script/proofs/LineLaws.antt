@@ -11,7 +11,7 @@ use Rattle.ht_text.specs.Fronts.{IsFront, IsLongestFront, IsWordText, IsRowsText
 use Rattle.ht_script.specs.declared.command.Command.{Command}
 use Rattle.ht_script.specs.declared.command.Command.TheVariants as command
 use Rattle.ht_script.specs.declared.line.Line.{Line}
-use Rattle.ht_script.specs.declared.line.Line.TheVariants.{Blank, Group, Reduce, LetRows, LetProduct, Show, Equal, Image, Load}
+use Rattle.ht_script.specs.declared.line.Line.TheVariants.{Blank, Group, Reduce, LetRows, LetProduct, Show, Equal, Image, Load, Basis}
 use Rattle.ht_script.specs.declared.ending.Ending.TheVariants as ending
 use Rattle.ht_script.specs.Tokens.{◌▸◌, Is, IsSpaces, IsToken, IsSpaced, IsSpan, IsFirstToken}
 use Rattle.ht_script.specs.Lines.{IsMarked, IsComment, IsNumber, AreRows, IsNamed, IsWritten, IsFileNamed, IsLine, IsNoLine, IsLineText}
@@ -133,6 +133,7 @@ taken_line command.Show rest b = let v = show_behind rest b in (Show v.0, v.1)
 taken_line command.Equal rest b = let v = equal_behind rest b in (Equal v.0 v.1, v.2)
 taken_line command.Image rest b = let v = image_behind rest b in (Image v.0 v.1, v.2)
 taken_line command.Load rest b = let v = load_behind rest b in (Load v.0 v.1, v.2)
+taken_line command.Basis rest b = let v = show_behind rest b in (Basis v.0, v.1)
 
 -- bytes of the command's word, and of what makes a line behind it, are the text of the line
 pub completed : (F : List ℕ → List ℕ → Type 0) (bytes : List ℕ) (s : IsSpaced F bytes) (c : Command) (line : Line) → s.token ≡ keyword c → Completes c line s.rest → IsLine bytes line
@@ -144,6 +145,7 @@ completed F bytes s command.Show (Show name) word h = refit F (λ t u. Is (codes
 completed F bytes s command.Equal (Equal first second) word h = refit F (λ t u. Is (codes "equal") t × (IsNamed first ▸ IsNamed second ▸ IsSpaces) u) bytes s (word, h)
 completed F bytes s command.Image (Image name w) word h = refit F (λ t u. Is (codes "image") t × (IsNamed name ▸ IsWritten w ▸ IsSpaces) u) bytes s (word, h)
 completed F bytes s command.Load (Load name file) word h = refit F (λ t u. Is (codes "load") t × (IsNamed name ▸ IsFileNamed file ▸ IsSpaces) u) bytes s (word, h)
+completed F bytes s command.Basis (Basis name) word h = refit F (λ t u. Is (codes "basis") t × (IsNamed name ▸ IsSpaces) u) bytes s (word, h)
 completed F bytes s _ _ word h = absurd h
 
 -- the line of a command
@@ -164,6 +166,7 @@ command_for (Show name) = Some command.Show
 command_for (Equal first second) = Some command.Equal
 command_for (Image name word) = Some command.Image
 command_for (Load name file) = Some command.Load
+command_for (Basis name) = Some command.Basis
 
 -- bytes of a line, by its command
 abbrev pub Told : List ℕ → Option Command → Type 0
@@ -194,6 +197,7 @@ told (Image name word) bytes h =
 told (Load name file) bytes h =
     let last = h.fits.1.fits.1 in
     refit _ _ bytes h (h.fits.0, refit _ _ h.rest h.fits.1 (h.fits.1.fits.0.0, refit _ _ h.fits.1.rest last (last.fits.0.0, last.fits.1)))
+told (Basis name) bytes h = refit _ _ bytes h (h.fits.0, refit _ _ h.rest h.fits.1 (h.fits.1.fits.0.0, h.fits.1.fits.1))
 
 pub command_text : (bytes : List ℕ) (c : Command) → (Is (keyword c) ▸ IsTaken c) bytes → IsCommandText bytes
 command_text bytes c h = refit (λ t u. Is (keyword c) t × IsTaken c u) CommandFits bytes h (record { of = c; word = h.fits.0; behind = h.fits.1 })

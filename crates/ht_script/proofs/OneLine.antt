@@ -8,7 +8,7 @@ use Rattle.ht_text.proofs.RowTexts.{same_rows}
 use Rattle.ht_script.specs.declared.command.Command.{Command}
 use Rattle.ht_script.specs.declared.command.Command.TheVariants as command
 use Rattle.ht_script.specs.declared.line.Line.{Line}
-use Rattle.ht_script.specs.declared.line.Line.TheVariants.{Blank, Group, Reduce, LetRows, LetProduct, Show, Equal, Image, Load}
+use Rattle.ht_script.specs.declared.line.Line.TheVariants.{Blank, Group, Reduce, LetRows, LetProduct, Show, Equal, Image, Load, Basis}
 use Rattle.ht_script.specs.declared.factor.Factor.{Factor}
 use Rattle.ht_script.specs.Factors.{IsFactor, AreListed, AreFactors}
 use Rattle.ht_script.specs.Tokens.{◌▸◌, Is, IsSpaces, IsToken}
@@ -130,6 +130,9 @@ same_line bytes (Load a u) (Load b v) e g h =
     let name_is = names.0 in
     let file_is = sym files.first.1 ∙ files.second.1 in
     cc
+same_line bytes (Basis a) (Basis b) e g h =
+    let rest = behind_both command.Basis (IsNamed a ▸ IsSpaces) (IsNamed b ▸ IsSpaces) bytes g h in
+    ap Basis (one_name a b IsSpaces IsSpaces rest.rest rest.behind_first rest.behind_second).0
 same_line bytes _ _ e g h = absurd cc
 
 pub one_line : (bytes : List ℕ) (l m : Line) → IsLine bytes l → IsLine bytes m → l ≡ m

@@ -15,7 +15,7 @@ use Rattle.ht_word.specs.declared.word.Word.{Word}
 use Rattle.ht_pair.specs.declared.row.Row.{Row}
 use Rattle.ht_text.specs.Texts.{IsNum, IsWord, IsRows}
 use Rattle.ht_script.specs.declared.line.Line.{Line}
-use Rattle.ht_script.specs.declared.line.Line.TheVariants.{Blank, Group, Reduce, LetRows, LetProduct, Show, Equal, Image, Load}
+use Rattle.ht_script.specs.declared.line.Line.TheVariants.{Blank, Group, Reduce, LetRows, LetProduct, Show, Equal, Image, Load, Basis}
 use Rattle.ht_script.specs.Tokens.{IsSpaces, Is, ◌▸◌}
 use Rattle.ht_script.specs.Names.{IsName, IsFile}
 use Rattle.ht_script.specs.Factors.{AreFactors}
@@ -55,6 +55,7 @@ IsLine bytes (Show name) = (Is (codes "show") ▸ IsNamed name ▸ IsSpaces) byt
 IsLine bytes (Equal first second) = (Is (codes "equal") ▸ IsNamed first ▸ IsNamed second ▸ IsSpaces) bytes
 IsLine bytes (Image name word) = (Is (codes "image") ▸ IsNamed name ▸ IsWritten word ▸ IsSpaces) bytes
 IsLine bytes (Load name file) = (Is (codes "load") ▸ IsNamed name ▸ IsFileNamed file ▸ IsSpaces) bytes
+IsLine bytes (Basis name) = (Is (codes "basis") ▸ IsNamed name ▸ IsSpaces) bytes
 
 abbrev pub IsNoLine : List ℕ → Type 0
 IsNoLine bytes = (line : Line) → ¬ IsLine bytes line

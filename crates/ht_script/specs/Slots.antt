@@ -20,7 +20,7 @@ use Rattle.ht_script.specs.declared.command.Slot.TheVariants.{Number, Name, Equa
 use Rattle.ht_script.specs.declared.ending.Ending.{Ending}
 use Rattle.ht_script.specs.declared.ending.Ending.TheVariants as ending
 use Rattle.ht_script.specs.declared.line.Line.{Line}
-use Rattle.ht_script.specs.declared.line.Line.TheVariants.{Group, Reduce, LetRows, LetProduct, Show, Equal, Image, Load}
+use Rattle.ht_script.specs.declared.line.Line.TheVariants.{Group, Reduce, LetRows, LetProduct, Show, Equal, Image, Load, Basis}
 use Rattle.ht_script.specs.Tokens.{IsSpaces, Is, ◌▸◌}
 use Rattle.ht_script.specs.Names.{IsName, IsFile}
 use Rattle.ht_script.specs.Factors.{AreFactors, AreFactorsText}
@@ -34,6 +34,7 @@ keyword command.Show = codes "show"
 keyword command.Equal = codes "equal"
 keyword command.Image = codes "image"
 keyword command.Load = codes "load"
+keyword command.Basis = codes "basis"
 
 abbrev pub slots_of : Command → List Slot
 slots_of command.Group = Number ∷ Number ∷ []
@@ -43,6 +44,7 @@ slots_of command.Show = Name ∷ []
 slots_of command.Equal = Name ∷ Name ∷ []
 slots_of command.Image = Name ∷ Word ∷ []
 slots_of command.Load = Name ∷ File ∷ []
+slots_of command.Basis = Name ∷ []
 
 abbrev pub ending_of : Command → Ending
 ending_of command.Group = ending.Spaces
@@ -52,6 +54,7 @@ ending_of command.Show = ending.Spaces
 ending_of command.Equal = ending.Spaces
 ending_of command.Image = ending.Spaces
 ending_of command.Load = ending.Spaces
+ending_of command.Basis = ending.Spaces
 
 abbrev pub IsSlot : Slot → List ℕ → Type 0
 IsSlot Number token = IsNumText token
@@ -81,6 +84,7 @@ Completes command.Show (Show name) bytes = (IsNamed name ▸ IsSpaces) bytes
 Completes command.Equal (Equal first second) bytes = (IsNamed first ▸ IsNamed second ▸ IsSpaces) bytes
 Completes command.Image (Image name word) bytes = (IsNamed name ▸ IsWritten word ▸ IsSpaces) bytes
 Completes command.Load (Load name file) bytes = (IsNamed name ▸ IsFileNamed file ▸ IsSpaces) bytes
+Completes command.Basis (Basis name) bytes = (IsNamed name ▸ IsSpaces) bytes
 Completes _ _ bytes = ⊥
 
 abbrev pub Reads : Command → List ℕ → Option Line → Type 0

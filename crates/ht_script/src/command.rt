@@ -19,6 +19,7 @@ pub(crate) enum Command {
     Equal,
     Image,
     Load,
+    Basis,
 }
 
 /// What a token behind the first word is.
@@ -32,7 +33,7 @@ pub(crate) enum Slot {
 }
 
 // Every command.
-const COMMANDS: [Command; 7] = [
+const COMMANDS: [Command; 8] = [
     Command::Group,
     Command::Reduce,
     Command::Let,
@@ -40,6 +41,7 @@ const COMMANDS: [Command; 7] = [
     Command::Equal,
     Command::Image,
     Command::Load,
+    Command::Basis,
 ];
 
 impl Command {
@@ -55,6 +57,7 @@ impl Command {
             Command::Equal => b"equal",
             Command::Image => b"image",
             Command::Load => b"load",
+            Command::Basis => b"basis",
         }
     }
 
@@ -70,6 +73,7 @@ impl Command {
             Command::Equal => &[Slot::Name, Slot::Name],
             Command::Image => &[Slot::Name, Slot::Word],
             Command::Load => &[Slot::Name, Slot::File],
+            Command::Basis => &[Slot::Name],
         }
     }
 
@@ -80,8 +84,8 @@ impl Command {
         match self {
             Command::Reduce => Ending::Rows,
             Command::Let => Ending::Value,
-            Command::Group | Command::Show | Command::Equal | Command::Image | Command::Load =>
-                Ending::Spaces,
+            Command::Group | Command::Show | Command::Equal => Ending::Spaces,
+            Command::Image | Command::Load | Command::Basis => Ending::Spaces,
         }
     }
 

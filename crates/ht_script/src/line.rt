@@ -33,6 +33,8 @@ pub enum Line {
     Image { name: Name, word: Word },
     /// `load`, a name and the name of a file.
     Load { name: Name, file: Name },
+    /// `basis` and a name.
+    Basis(Name),
 }
 
 /// Why bytes give no line.

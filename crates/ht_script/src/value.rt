@@ -56,6 +56,7 @@ fn read_behind(alloc: Global, command: Command, bytes: &[u8]) -> Result<Option<L
         Command::Equal => read_equal(alloc, bytes),
         Command::Image => read_image(alloc, bytes),
         Command::Load => read_load(alloc, bytes),
+        Command::Basis => read_basis(alloc, bytes),
     }
 }
 
@@ -142,6 +143,16 @@ fn read_load(alloc: Global, bytes: &[u8]) -> Result<Option<Line>, NoMemory>
         return Ok(None);
     };
     Ok(Some(Line::Load { name, file }))
+}
+
+// The line of `basis` and the bytes behind it. Two passes over them.
+fn read_basis(alloc: Global, bytes: &[u8]) -> Result<Option<Line>, NoMemory>
+    ensures { IfOk result (Reads Command.Basis bytes.now) }
+{
+    let Some(name) = read_last_name(alloc, bytes)? else {
+        return Ok(None);
+    };
+    Ok(Some(Line::Basis(name)))
 }
 
 // The one token that the bytes have. One pass over them.
