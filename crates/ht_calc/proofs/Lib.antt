@@ -3,12 +3,12 @@ pub mod Ends
 pub mod FactorLaws
 pub mod Fetching
 pub mod LineLaws
-pub mod ImageTexts
 pub mod LineSizes
 pub mod Loading
 pub mod NameLaws
 pub mod Streams
 pub mod RunLaws
 pub mod Standing
+pub mod QuestionTexts
 pub mod StepLaws
 pub mod TermLaws

@@ -16,7 +16,7 @@ use Rattle.ht_calc.specs.Loads.{Loads, loaded, no_file, file_refused}
 use Rattle.ht_calc.specs.Names.{bind, HasRoom}
 use Rattle.ht_calc.specs.Products.{Term, StandFor, IsLargeProduct}
 use Rattle.ht_calc.specs.States.{State}
-use Rattle.ht_calc.specs.Steps.{Does, Step, blank, group_is_set, group_refused, before_group, reduced, reduce_refused, let_bound, let_no_room, let_refused, product_bound, product_unbound, product_no_room, product_wide, product_large, load_no_room, shown, show_unbound, compared, first_unbound, second_unbound, image_shown, image_unbound, image_foreign, by_line, by_file, no_line}
+use Rattle.ht_calc.specs.Steps.{Does, Step, blank, group_is_set, group_refused, before_group, reduced, reduce_refused, let_bound, let_no_room, let_refused, product_bound, product_unbound, product_no_room, product_wide, product_large, load_no_room, shown, show_unbound, compared, first_unbound, second_unbound, image_shown, image_unbound, image_foreign, basis_shown, basis_unbound, basis_over, by_line, by_file, no_line}
 use Rattle.ht_calc.proofs.Fetching.{nothing_asked}
 
 -- a line that is refused changes nothing
@@ -44,6 +44,9 @@ refused_keeps old _ _ _ (second_unbound first second p some first_is none) is = 
 refused_keeps old _ _ _ (image_shown name word p L shape some found of_shape image) is = absurd is
 refused_keeps old _ _ _ (image_unbound name word some none) is = refl
 refused_keeps old _ _ _ (image_foreign name word p shape some found foreign) is = refl
+refused_keeps old _ _ _ (basis_shown name p X shape some found quasinormal within) is = absurd is
+refused_keeps old _ _ _ (basis_unbound name some none) is = refl
+refused_keeps old _ _ _ (basis_over name p X shape some found quasinormal over) is = refl
 
 -- nor does a file
 refused_load_keeps : (old : State) (name : List ℕ) (gives : Option (List ℕ)) (answer : Answer) (new : State) → Loads old name gives answer new → IsRefusal answer → new ≡ old

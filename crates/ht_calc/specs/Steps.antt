@@ -13,17 +13,19 @@ use Rattle.ht_word.specs.declared.shape.Shape.{Shape}
 use Rattle.ht_word.specs.Shapes.{IsShape}
 use Rattle.ht_word.specs.Words.{◌·◌, IsWordOf}
 use Rattle.ht_pair.specs.declared.row.Row.{Row}
+use Rattle.ht_pair.specs.Bases.{TakesAtMost}
 use Rattle.ht_pair.specs.Pairs.{IsPair}
 use Rattle.ht_pair.specs.Actions.{Alike, IsCanonicalFor}
 use Rattle.ht_pair.specs.Images.{Entry, IsImage}
 use Rattle.ht_pair.specs.RowsFaults.{IsFirstForeign, IsFromFault, IsToFault}
+use Rattle.ht_pair.specs.SemiNormal.{IsQuasinormal}
 use Rattle.ht_text.specs.Fronts.{IsLongestFront}
 use Rattle.ht_script.specs.declared.line.Line.{Line}
 use Rattle.ht_script.specs.declared.line.Line.TheVariants as line
 use Rattle.ht_script.specs.declared.factor.Factor.{Factor}
 use Rattle.ht_script.specs.Lines.{IsLine, IsNoLine, IsLineText}
 use Rattle.ht_answer.specs.declared.answer.Answer.{Answer}
-use Rattle.ht_answer.specs.declared.answer.Answer.TheVariants.{Blank, Group, Pair, Let, Equal, Refused}
+use Rattle.ht_answer.specs.declared.answer.Answer.TheVariants.{Blank, Group, Pair, Let, Equal, Basis, Refused}
 use Rattle.ht_answer.specs.declared.answer.Refusal.{Refusal}
 use Rattle.ht_answer.specs.declared.answer.Refusal.TheVariants as refusal
 use Rattle.ht_calc.specs.Fetches.{Fetched}
@@ -42,6 +44,7 @@ NeedsGroup (line.Show name) = ⊤
 NeedsGroup (line.Equal first second) = ⊤
 NeedsGroup (line.Image name word) = ⊤
 NeedsGroup (line.Load name file) = ⊤
+NeedsGroup (line.Basis name) = ⊤
 
 abbrev pub IsRowsRefusal : Shape → List Row → Refusal → Type 0
 IsRowsRefusal shape rows (refusal.Syntax column) = ⊥
@@ -93,6 +96,10 @@ pub data Does (old : State) : Line → Answer → State → Type 0 where
       → Does old (line.Image name word) (Pair (rows_from word L)) old
   image_unbound : (name : List ℕ) (word : Word) → IsSome old.shape → bound old.names name ≡ None → Does old (line.Image name word) (Refused (refusal.Name name)) old
   image_foreign : (name : List ℕ) (word : Word) (p : List Row) (shape : Shape) → old.shape ≡ Some shape → bound old.names name ≡ Some p → ¬ IsWordOf shape word → Does old (line.Image name word) (Refused (refusal.Word 1)) old
+  basis_shown : (name : List ℕ) (p : List Row) (X : List Word) (shape : Shape) → old.shape ≡ Some shape → bound old.names name ≡ Some p → IsQuasinormal shape p X → TakesAtMost shape X old.budget → Does old (line.Basis name) (Basis X) old
+  basis_unbound : (name : List ℕ) → IsSome old.shape → bound old.names name ≡ None → Does old (line.Basis name) (Refused (refusal.Name name)) old
+  basis_over : (name : List ℕ) (p : List Row) (X : List Word) (shape : Shape) → old.shape ≡ Some shape → bound old.names name ≡ Some p → IsQuasinormal shape p X → ¬ TakesAtMost shape X old.budget
+      → Does old (line.Basis name) (Refused (refusal.Budget name)) old
 
 -- bytes that are no line are refused with the column behind their longest front that some line has
 pub data Step (old : State) (bytes : List ℕ) : List Fetched → Answer → State → Type 0 where

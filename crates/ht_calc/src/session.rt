@@ -17,10 +17,11 @@ ghost use Rattle.ht_calc.specs.Steps.{IsRowsRefusal, Does, Step};
 
 use crate::bindings::Bindings;
 use crate::product::{first_unbound, has_wide, product_of};
-use crate::question::image_rows;
+use crate::question::{basis_words, image_rows};
 use ht_answer::{Answer, Refusal};
 use ht_out::Library;
 use ht_pair::{Element, OpFault, Rows, RowsFault};
+use ht_quasi::QuasiFault;
 use ht_script::{Factors, Line, LineFault, read_line};
 use ht_word::{Name, NoMemory, Shape, Word};
 use std::alloc::Global;
@@ -117,6 +118,7 @@ impl Session {
             Line::Equal(first, second) => Ok(self.compare(first, second)),
             Line::Image { name, word } => self.image(alloc, name, word),
             Line::Load { name, file } => self.load(alloc, name, &file, files),
+            Line::Basis(name) => self.basis(alloc, name),
         }
     }
 
@@ -276,6 +278,23 @@ impl Session {
             return Ok(Answer::Refused(Refusal::Word(1)));
         }
         Ok(Answer::Pair(image_rows(alloc, element, word)?))
+    }
+
+    fn basis(&self, alloc: Global, name: Name) -> Result<Answer, NoMemory>
+        ensures step { IfOk result (λ answer. Does self.now (line.Basis name) answer self.now) }
+        ensures text { IfOk result HasAnswerText }
+    {
+        if self.shape.is_none() {
+            return Ok(Answer::Refused(Refusal::Group));
+        }
+        let Some(element) = self.names.get(&name) else {
+            return Ok(Answer::Refused(Refusal::Name(name)));
+        };
+        match basis_words(alloc, element, self.budget) {
+            Ok(words) => Ok(Answer::Basis(words)),
+            Err(QuasiFault::Budget) => Ok(Answer::Refused(Refusal::Budget(name))),
+            Err(QuasiFault::NoMemory) => Err(NoMemory),
+        }
     }
 }
 

@@ -6,7 +6,7 @@ use Rattle.ht_pair.specs.ValueLists.{IsValueList, IsFollowed}
 use Rattle.ht_pair.proofs.ValueListLaws.{cone_of, cone_value, followed_image}
 use Rattle.ht_text.specs.Texts.{HasRowsText}
 use Rattle.ht_calc.specs.Steps.{rows_from}
-use Rattle.ht_calc.proofs.ImageTexts.{image_has_texts}
+use Rattle.ht_calc.proofs.QuestionTexts.{image_has_texts}
 use Rattle.ht_calc.proofs.question.image_rows.Goals as goal
 
 pub step-requires : goal.step-requires

@@ -35,3 +35,7 @@ returns-in-Equal-clause-step g c = λ bytes is.
 pub returns-in-Image-clause-step : goal.returns-in-Image-clause-step
 returns-in-Image-clause-step g c = λ bytes is.
     alone_or_err c.args.self.now c.args.self.now c.args.line (line.Image c.in-Image.name c.in-Image.word) c.image.result (g.L.Library.files c.args.files.now) (g.L.Library.faults c.args.files.now) bytes c.in-Image.is c.image.ensures.step is
+
+pub returns-in-Basis-clause-step : goal.returns-in-Basis-clause-step
+returns-in-Basis-clause-step g c = λ bytes is.
+    alone_or_err c.args.self.now c.args.self.now c.args.line (line.Basis c.in-Basis.field-0) c.basis.result (g.L.Library.files c.args.files.now) (g.L.Library.faults c.args.files.now) bytes c.in-Basis.is c.basis.ensures.step is
