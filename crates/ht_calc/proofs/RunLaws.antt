@@ -10,7 +10,7 @@ use Rattle.ht_calc.specs.Fetches.{Fetched, AreFetches}
 use Rattle.ht_calc.specs.States.{State}
 use Rattle.ht_calc.specs.Steps.{Step}
 use Rattle.ht_calc.specs.Runs.{Run, output_of}
-use Rattle.ht_calc.specs.Progress.{Answered}
+use Rattle.ht_calc.specs.Progress.{Origin, Answered}
 use Rattle.ht_calc.proofs.Fetching.{asked_more}
 
 -- one more line
@@ -45,7 +45,7 @@ any_more answers answer = (to, back)
         ]
 
 -- one more line is answered
-pub answered_more : (files : Option (List (List ℕ × List ℕ))) (before mid now : ℕ) (lines : List (List ℕ)) (line : List ℕ) (old new : Answering) (O all : List ℕ) (made : List Fetched) (answer : Answer)
+pub answered_more : (files : Option (List (List ℕ × List ℕ))) (before : Origin) (mid now : ℕ) (lines : List (List ℕ)) (line : List ℕ) (old new : Answering) (O all : List ℕ) (made : List Fetched) (answer : Answer)
     → Answered files before mid lines old O → Step old.session line made answer new.session → AreFetches files mid now made
     → new.lines ≡ old.lines + 1 → all ≡ O ++ answer_text answer → IsTrue new.some_refused ↔ (IsTrue old.some_refused ⊎ IsRefusal answer)
     → Answered files before now (lines ++ line ∷ []) new all
@@ -54,7 +54,7 @@ answered_more files before mid now lines line old new O all made answer was step
   fetches = was.fetches ++ made;
   answers = was.answers ++ answer ∷ [];
   run = run_more _ old.session new.session lines was.fetches made was.answers line answer was.run step;
-  asked = asked_more files before mid now was.fetches made was.asked asked;
+  asked = asked_more files before.faults mid now was.fetches made was.asked asked;
   output = text ∙ ap (λ (o : List ℕ). o ++ answer_text answer) was.output ∙ sym (flat_map-append answer_text was.answers (answer ∷ []) ∙ ap (λ (o : List ℕ). output_of was.answers ++ o) (append-nil (answer_text answer)));
   refusal = (λ is. (any_more was.answers answer).0 (onto (refused.0 is)), λ some. refused.1 (from ((any_more was.answers answer).1 some)));
 }

@@ -4,6 +4,7 @@
 --     IsCut T lines begun                 T is these lines, each with its line feed, and what is begun of one more; they are within the limits
 --     IsReady reading                     what is begun has no line feed, and there is room for it
 --     IsRead extent T lines begun         the lines of T that were answered, by how far T was read
+--     Origin                              how a run began: its budget, and the count of faults of the library then
 --     Answered .. lines answering O       O is the output of a run over these lines that led to here
 --     Stands extent T O .. reading        so far T was read to this extent, and O is the output
 --     GoesOn old new                      one more line was ended, or more of it was begun
@@ -43,16 +44,20 @@ IsRead Within T lines begun = IsCut T lines begun
 IsRead Ended T lines begun = (¬ IsTooLong T) × (lines_of T ≡ lines) × (counting_lines T ≡ lines)
 IsRead TooLong T lines begun = IsTooLong T × (counting_lines T ≡ lines) × (length lines ≤ length (whole_lines T))
 
-pub record Answered (files : Option (List (List ℕ × List ℕ))) (before now : ℕ) (lines : List (List ℕ)) (answering : Answering) (O : List ℕ) : Type 0 where
+pub record Origin : Type 0 where
+  pub budget : ℕ
+  pub faults : ℕ
+
+pub record Answered (files : Option (List (List ℕ × List ℕ))) (before : Origin) (now : ℕ) (lines : List (List ℕ)) (answering : Answering) (O : List ℕ) : Type 0 where
   pub count : answering.lines ≡ length lines
   pub fetches : List Fetched
   pub answers : List Answer
-  pub run : Run (start 2000) lines fetches answers answering.session
-  pub asked : AreFetches files before now fetches
+  pub run : Run (start before.budget) lines fetches answers answering.session
+  pub asked : AreFetches files before.faults now fetches
   pub output : O ≡ output_of answers
   pub refusal : IsTrue answering.some_refused ↔ Any IsRefusal answers
 
-pub record Stands (extent : Extent) (T O : List ℕ) (files : Option (List (List ℕ × List ℕ))) (before now : ℕ) (reading : Reading) : Type 0 where
+pub record Stands (extent : Extent) (T O : List ℕ) (files : Option (List (List ℕ × List ℕ))) (before : Origin) (now : ℕ) (reading : Reading) : Type 0 where
   pub lines : List (List ℕ)
   pub read : IsRead extent T lines reading.begun.items
   pub answered : Answered files before now lines reading.answering O

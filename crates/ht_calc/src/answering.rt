@@ -1,15 +1,12 @@
 //! Lines to answers.
 ghost use Rattle.std.specs.Prelude.{◌≡◌, ◌≤◌, ◌<◌, ◌∷◌, ◌++◌, ◌+◌, [], List, ℕ, Option, length, OnOk};
-ghost use Rattle.ht_calc.specs.Progress.{IsOneLine, Answered};
+ghost use Rattle.ht_calc.specs.Progress.{IsOneLine, Origin, Answered};
 
 use crate::Session;
 use ht_answer::print;
 use ht_out::Library;
 use ht_word::NoMemory;
 use std::alloc::Global;
-
-// In expansions.
-const DEFAULT_BUDGET: u32 = 2_000;
 
 /// A session, the number of lines that it answered, and whether one of the answers is a refusal.
 #[derive(Drop)]
@@ -20,12 +17,13 @@ pub struct Answering {
 }
 
 impl Answering {
-    /// No line is answered yet. Takes no memory.
-    pub fn new(alloc: Global) -> Answering
-        ensures { (files : Option (List (List ℕ × List ℕ))) (faults : ℕ) → Answered files faults faults [] result [] }
+    /// No line is answered yet. The budget is in expansions. Takes no memory.
+    pub fn new(alloc: Global, budget: u32) -> Answering
+        requires { (1 ≤ budget) × (budget ≤ 65536) }
+        ensures { (files : Option (List (List ℕ × List ℕ))) (faults : ℕ) → Answered files (record { budget = budget; faults = faults }) faults [] result [] }
     {
         Answering {
-            session: Session::new(alloc, DEFAULT_BUDGET),
+            session: Session::new(alloc, budget),
             lines: 0,
             some_refused: false,
         }
@@ -58,7 +56,7 @@ impl Answering {
         requires short { length line.now ≤ 65536 }
         requires one_line { IsOneLine line.now }
         requires few { self.old.lines < 65536 }
-        ensures answered { (lines : List (List ℕ)) (O : List ℕ) (before : ℕ)
+        ensures answered { (lines : List (List ℕ)) (O : List ℕ) (before : Origin)
             → Answered (L.files files.old) before (L.faults files.old) lines self.old (O ++ text.old.items)
             → OnOk result (Answered (L.files files.old) before (L.faults files.new) (lines ++ line.now ∷ []) self.new (O ++ text.new.items)) }
         ensures count { OnOk result (self.new.lines ≡ self.old.lines + 1) }

@@ -1,7 +1,7 @@
 //! Bytes to lines: a script that comes piece by piece.
 ghost use Rattle.std.specs.Prelude.{◌≡◌, ◌≤◌, ◌<◌, ◌+◌, ◌∷◌, ◌++◌, ◌↔◌, [], List, ℕ, Option, length, IsTrue, OnOk, IfOk};
 ghost use Rattle.ht_calc.specs.declared.lines.Extent.TheVariants.{Within};
-ghost use Rattle.ht_calc.specs.Progress.{IsOneLine, IsReady, Stands, GoesOn};
+ghost use Rattle.ht_calc.specs.Progress.{IsOneLine, IsReady, Origin, Stands, GoesOn};
 
 use crate::answering::Answering;
 use ht_out::Library;
@@ -34,13 +34,14 @@ pub struct Reading {
 }
 
 impl Reading {
-    /// No byte is read yet. Takes no memory.
-    pub fn new(alloc: Global) -> Reading
-        ensures stands { (files : Option (List (List ℕ × List ℕ))) (faults : ℕ) → Stands Extent.Within [] [] files faults faults result }
+    /// No byte is read yet. The budget is in expansions. Takes no memory.
+    pub fn new(alloc: Global, budget: u32) -> Reading
+        requires { (1 ≤ budget) × (budget ≤ 65536) }
+        ensures stands { (files : Option (List (List ℕ × List ℕ))) (faults : ℕ) → Stands Extent.Within [] [] files (record { budget = budget; faults = faults }) faults result }
         ensures ready { IsReady result }
     {
         Reading {
-            answering: Answering::new(alloc),
+            answering: Answering::new(alloc, budget),
             begun: Vec::new(alloc),
         }
     }
@@ -64,7 +65,7 @@ impl Reading {
         text: &mut Vec<u8>,
     ) -> Result<Extent, NoMemory>
         requires { IsReady self.old }
-        ensures stands { (T O : List ℕ) (before : ℕ)
+        ensures stands { (T O : List ℕ) (before : Origin)
             → Stands Extent.Within T (O ++ text.old.items) (L.files files.old) before (L.faults files.old) self.old
             → IfOk result (λ extent. Stands extent (T ++ bytes.now) (O ++ text.new.items) (L.files files.old) before (L.faults files.new) self.new) }
         ensures ready { IfOk result (λ extent. extent ≡ Extent.Within → IsReady self.new × GoesOn self.old self.new) }
@@ -107,7 +108,7 @@ impl Reading {
         requires one_line { IsOneLine end.now }
         requires few { self.old.answering.lines < 65536 }
         requires short { length self.old.begun.items + length end.now ≤ 65536 }
-        ensures stands { (T O : List ℕ) (before : ℕ)
+        ensures stands { (T O : List ℕ) (before : Origin)
             → Stands Extent.Within T (O ++ text.old.items) (L.files files.old) before (L.faults files.old) self.old
             → OnOk result (Stands Extent.Within (T ++ (end.now ++ 10 ∷ [])) (O ++ text.new.items) (L.files files.old) before (L.faults files.new) self.new) }
         ensures count { OnOk result (self.new.answering.lines ≡ self.old.answering.lines + 1) }
@@ -128,7 +129,7 @@ impl Reading {
     fn begin(&mut self, bytes: &[u8]) -> Result<Extent, NoMemory>
         requires ready { IsReady self.old }
         requires one_line { IsOneLine bytes.now }
-        ensures stands { (T O : List ℕ) (files : Option (List (List ℕ × List ℕ))) (before now : ℕ)
+        ensures stands { (T O : List ℕ) (files : Option (List (List ℕ × List ℕ))) (before : Origin) (now : ℕ)
             → Stands Extent.Within T O files before now self.old
             → IfOk result (λ extent. Stands extent (T ++ bytes.now) O files before now self.new) }
         ensures ready { IfOk result (λ extent. extent ≡ Extent.Within → IsReady self.new
@@ -154,7 +155,7 @@ impl Reading {
         text: &mut Vec<u8>,
     ) -> Result<(), NoMemory>
         requires { IsReady self.old }
-        ensures stands { (T O : List ℕ) (before : ℕ)
+        ensures stands { (T O : List ℕ) (before : Origin)
             → Stands Extent.Within T (O ++ text.old.items) (L.files files.old) before (L.faults files.old) self.old
             → OnOk result (Stands Extent.Ended T (O ++ text.new.items) (L.files files.old) before (L.faults files.new) self.new) }
         ensures files { L.files files.new ≡ L.files files.old }

@@ -1,19 +1,23 @@
 //! A run over a whole script.
-ghost use Rattle.std.specs.Prelude.{◌≡◌, ◌≢◌, ◌≤◌, ◌<◌, ◌↔◌, List, ℕ, length, take, OnOk, if◌then◌else◌};
+ghost use Rattle.std.specs.Prelude.{◌≡◌, ◌≢◌, ◌≤◌, ◌<◌, ◌⊎◌, List, ℕ, length, map, string_bytes, take, OnOk, if◌then◌else◌};
 ghost use Rattle.std.specs.Io.KnownBytes.{Appends, IsAtEnd};
 ghost use Rattle.ht_out.specs.Counts.{Rose, HasCause};
+ghost use Rattle.clap.specs.Words.{Text};
+ghost use Rattle.ht_calc.specs.CommandLines.{AreBadWords, IsBudgetOf};
 ghost use Rattle.ht_calc.specs.Fetches.{Fetched, AreFetches};
 ghost use Rattle.ht_calc.specs.Tables.{Took, Table};
 
 use crate::Status;
 use crate::lines::{Extent, Reading};
+use crate::words::{WordsFault, read_budget};
 use ht_out::{Failed, Library, Sink, Source};
 use std::alloc::Global;
 
 /// Reads a script piece by piece, and answers its lines: before each further read the answers to
-/// all whole lines read so far are written. The words are those after the program's name. The first
-/// event ends the run, and the status says which; what it says of the bytes taken and written, and
-/// of the files fetched, is the clause `table`.
+/// all whole lines read so far are written. The words are those after the program's name, and give
+/// the budget, in expansions: `BadWords` comes where clap's definition of the command has a fault at
+/// them, unless no memory is found before. The first event ends the run, and the status says which;
+/// what it says of the bytes taken and written, and of the files fetched, is the clause `table`.
 ///
 /// Reads into a buffer of 4,096 bytes; beside the answers to one buffer it keeps the line that is
 /// begun, of at most 65,536 bytes. One pass over the bytes, whatever their pieces, beside the time
@@ -25,35 +29,39 @@ pub fn run<S: Source, L: Library, K: Sink>(
     files: &mut L,
     out: &mut K,
 ) -> Status
-    ensures words { (result ≡ Status.BadWords) ↔ (0 < length words.now) }
+    ensures words { result ≡ Status.BadWords → AreBadWords (map string_bytes words.now) }
+    ensures refused { AreBadWords (map string_bytes words.now) → (result ≡ Status.BadWords) ⊎ (result ≡ Status.NoMemory) }
     ensures table { (T O : List ℕ) × (fetches : List Fetched)
         × Took (S.left script.old) (S.left script.new) (S.taken script.old) (S.taken script.new) T
         × Appends (K.held out.old) (K.held out.new) O
         × AreFetches (L.files files.old) (L.faults files.old) (L.faults files.new) fetches
-        × Table (IsAtEnd (S.left script.new)) (Rose (S.faults script.old) (S.faults script.new)) (Rose (K.faults out.old) (K.faults out.new)) T fetches O result }
+        × Table (map string_bytes words.now) (IsAtEnd (S.left script.new)) (Rose (S.faults script.old) (S.faults script.new)) (Rose (K.faults out.old) (K.faults out.new)) T fetches O result }
     ensures files { L.files files.new ≡ L.files files.old }
 {
-    if !words.is_empty() {
-        return Status::BadWords;
+    match read_budget(alloc, words) {
+        Ok(budget) => run_script(alloc, budget, script, files, out),
+        Err(WordsFault::Bad) => Status::BadWords,
+        Err(WordsFault::NoMemory) => Status::NoMemory,
     }
-    run_script(alloc, script, files, out)
 }
 
 fn run_script<S: Source, L: Library, K: Sink>(
     alloc: Global,
+    budget: u32,
     script: &mut S,
     files: &mut L,
     out: &mut K,
 ) -> Status
+    requires { (1 ≤ budget) × (budget ≤ 65536) }
     ensures ran { result ≢ Status.BadWords }
-    ensures table { (T O : List ℕ) × (fetches : List Fetched)
+    ensures table { (words : List Text) → IsBudgetOf words budget → (T O : List ℕ) × (fetches : List Fetched)
         × Took (S.left script.old) (S.left script.new) (S.taken script.old) (S.taken script.new) T
         × Appends (K.held out.old) (K.held out.new) O
         × AreFetches (L.files files.old) (L.faults files.old) (L.faults files.new) fetches
-        × Table (IsAtEnd (S.left script.new)) (Rose (S.faults script.old) (S.faults script.new)) (Rose (K.faults out.old) (K.faults out.new)) T fetches O result }
+        × Table words (IsAtEnd (S.left script.new)) (Rose (S.faults script.old) (S.faults script.new)) (Rose (K.faults out.old) (K.faults out.new)) T fetches O result }
     ensures files { L.files files.new ≡ L.files files.old }
 {
-    let mut reading = Reading::new(alloc);
+    let mut reading = Reading::new(alloc, budget);
     let mut text = Vec::new(alloc);
     let mut buffer = [0u8; 4096];
     'read: loop {

@@ -9,7 +9,7 @@ pub enum Status {
     Done,
     /// All answers were written, and some are refusals.
     SomeRefused,
-    /// The words of the command line are wrong; nothing was read or written.
+    /// The command doesn't take the words of the command line; nothing was read or written.
     BadWords,
     /// The source failed.
     ReadFault,

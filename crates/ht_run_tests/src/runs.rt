@@ -174,6 +174,32 @@ fn ends_with_its_status(rt: HostRuntime) -> Result<(), Fail> {
     Ok(())
 }
 
+// The words may give a budget from 1 to 65,536, spelled as clap takes numbers, and nothing else.
+#[test]
+fn takes_a_budget(rt: HostRuntime) -> Result<(), Fail> {
+    let alloc = rt.alloc();
+    let words = [
+        String::from_str(alloc, "--budget")?,
+        String::from_str(alloc, "65536")?,
+    ];
+    let (number, _) = run_over(alloc, &words, b"group 2 1", &[], &[])?;
+    assert_eq!(rt; number, Status::Done.number());
+    for (word, status) in [
+        ("--budget=+5", Status::Done),
+        ("--budget=007", Status::Done),
+        ("--budget=0", Status::BadWords),
+        ("--budget=65537", Status::BadWords),
+        ("--budget", Status::BadWords),
+        ("--help", Status::BadWords),
+        ("--version", Status::BadWords),
+    ] {
+        let words = [String::from_str(alloc, word)?];
+        let (number, _) = run_over(alloc, &words, b"group 2 1", &[], &[])?;
+        assert_eq!(rt; number, status.number());
+    }
+    Ok(())
+}
+
 // Each line is answered before the next one is read, and a line that isn't whole after a fault isn't.
 #[test]
 fn answers_what_was_read(rt: HostRuntime) -> Result<(), Fail> {

@@ -1,10 +1,10 @@
-use Rattle.std.proofs.Common.{◌≡◌, ℕ, List, ◌++◌, take, drop, sym, ap, ◌∙◌, subst, arith}
+use Rattle.std.proofs.Common.{◌≡◌, ℕ, inl, List, ◌++◌, take, drop, sym, ap, ◌∙◌, subst, arith}
 use Rattle.std.proofs.KnownBytes.{Appends-trans}
 use Rattle.std.specs.Io.KnownBytes.{IsAtEnd}
 use Rattle.ht_out.specs.Counts.{Rose}
 use Rattle.ht_calc.specs.declared.lines.Extent.{Extent}
 use Rattle.ht_calc.specs.declared.lines.Extent.TheVariants.{Ended}
-use Rattle.ht_calc.specs.Progress.{Stands}
+use Rattle.ht_calc.specs.Progress.{Origin, Stands}
 use Rattle.ht_calc.proofs.Ends.{stops_before, stops_within, fails, ends, goes_over}
 use Rattle.ht_calc.proofs.Fetching.{asked_later}
 use Rattle.ht_calc.proofs.Standing.{stands_anew, stands_told}
@@ -12,9 +12,9 @@ use Rattle.ht_calc.proofs.Streams.{took_more, took_kept, wrote_all, parted, read
 use Rattle.ht_calc.proofs.script.run_script.Goals as goal
 
 pub returns-in_default-clause-table : goal.returns-in_default-clause-table
-returns-in_default-clause-table g c =
+returns-in_default-clause-table g c = λ words given.
     let inv = c.read.invariant in
-    let failed = fails inv.0 inv.1 _ _ _ c.read.reading inv.2.ready inv.2.stands in (
+    let failed = fails words inv.0 inv.1 _ _ _ c.read.reading inv.2.ready given inv.2.stands in (
       inv.0,
       inv.1,
       inv.2.stands.answered.fetches,
@@ -25,13 +25,13 @@ returns-in_default-clause-table g c =
     )
 
 pub returns-in_default-take-clause-table : goal.returns-in_default-take-clause-table
-returns-in_default-take-clause-table g c =
+returns-in_default-take-clause-table g c = λ words given.
     let inv = c.read.invariant in
     let T = inv.0 in
     let O = inv.1 in
     let piece = take c.in-Ok.count c.next.new.buf in
     let told = g.L.Library.files c.args.files.now in
-    let before = g.L.Library.faults c.args.files.now in
+    let before : Origin = record { budget = c.args.budget; faults = g.L.Library.faults c.args.files.now } in
     let mid = g.L.Library.faults c.read.files in
     let now = g.L.Library.faults c.take.new.files in
     let took = took_more _ _ _ _ _ _ T c.next.new.buf c.in-Ok.count inv.2.took c.in-Ok.ensures.bytes.0 c.in-Ok.ensures.bound.0 c.in-Ok.ensures.taken in (
@@ -40,18 +40,18 @@ returns-in_default-take-clause-table g c =
       inv.2.stands.answered.fetches,
       took,
       inv.2.wrote,
-      asked_later told before mid now inv.2.stands.answered.fetches inv.2.stands.answered.asked c.take.ensures.later,
-      stops_before (IsAtEnd (g.S.Source.left c.next.new.self)) T O piece told before mid c.read.reading inv.2.stands,
+      asked_later told before.faults mid now inv.2.stands.answered.fetches inv.2.stands.answered.asked c.take.ensures.later,
+      inl (stops_before words (IsAtEnd (g.S.Source.left c.next.new.self)) T O piece told before mid c.read.reading given inv.2.stands),
     )
 
 pub returns-in_default-write_all-clause-table : goal.returns-in_default-write_all-clause-table
-returns-in_default-write_all-clause-table g c =
+returns-in_default-write_all-clause-table g c = λ words given.
     let inv = c.read.invariant in
     let T = inv.0 in
     let O = inv.1 in
     let piece = take c.in-Ok.count c.next.new.buf in
     let told = g.L.Library.files c.args.files.now in
-    let before = g.L.Library.faults c.args.files.now in
+    let before : Origin = record { budget = c.args.budget; faults = g.L.Library.faults c.args.files.now } in
     let mid = g.L.Library.faults c.read.files in
     let now = g.L.Library.faults c.take.new.files in
     let took = took_more _ _ _ _ _ _ T c.next.new.buf c.in-Ok.count inv.2.took c.in-Ok.ensures.bytes.0 c.in-Ok.ensures.bound.0 c.in-Ok.ensures.taken in
@@ -71,7 +71,7 @@ returns-in_default-write_all-clause-table g c =
       held.answered.asked,
       (
         omega (arith, c.in_default-write_all.ensures.cause.failed, inv.2.write_faults),
-        stops_within (IsAtEnd (g.S.Source.left c.next.new.self)) c.in-Ok-take.extent (T ++ piece) (O ++ front) (drop written.0 c.deref.result.now) (O ++ text) told before now c.take.new.self at_end all held,
+        stops_within words (IsAtEnd (g.S.Source.left c.next.new.self)) c.in-Ok-take.extent (T ++ piece) (O ++ front) (drop written.0 c.deref.result.now) (O ++ text) told before now c.take.new.self at_end all given held,
       ),
     )
 
@@ -82,7 +82,7 @@ read-preserved g c =
     let O = inv.1 in
     let piece = take c.in-Ok.count c.next.new.buf in
     let told = g.L.Library.files c.args.files.now in
-    let before = g.L.Library.faults c.args.files.now in
+    let before : Origin = record { budget = c.args.budget; faults = g.L.Library.faults c.args.files.now } in
     let mid = g.L.Library.faults c.read.files in
     let now = g.L.Library.faults c.take.new.files in
     let took = took_more _ _ _ _ _ _ T c.next.new.buf c.in-Ok.count inv.2.took c.in-Ok.ensures.bytes.0 c.in-Ok.ensures.bound.0 c.in-Ok.ensures.taken in
@@ -107,13 +107,13 @@ read-preserved g c =
     )
 
 pub returns-in-Ended-clause-table : goal.returns-in-Ended-clause-table
-returns-in-Ended-clause-table g c =
+returns-in-Ended-clause-table g c = λ words given.
     let inv = c.read.invariant in
     let T = inv.0 in
     let O = inv.1 in
     let piece = take c.in-Ok.count c.next.new.buf in
     let told = g.L.Library.files c.args.files.now in
-    let before = g.L.Library.faults c.args.files.now in
+    let before : Origin = record { budget = c.args.budget; faults = g.L.Library.faults c.args.files.now } in
     let mid = g.L.Library.faults c.read.files in
     let now = g.L.Library.faults c.take.new.files in
     let took = took_more _ _ _ _ _ _ T c.next.new.buf c.in-Ok.count inv.2.took c.in-Ok.ensures.bytes.0 c.in-Ok.ensures.bound.0 c.in-Ok.ensures.taken in
@@ -130,18 +130,18 @@ returns-in-Ended-clause-table g c =
       took,
       rw (← c.deref.ensures.value) (wrote_all _ _ _ O c.deref.result.now written.0 written.3 inv.2.wrote written.2),
       ended.answered.asked,
-      rw c.ended.ensures (ends (IsAtEnd (g.S.Source.left c.next.new.self)) (Rose (g.S.Source.faults c.args.script.now) (g.S.Source.faults c.next.new.self)) (Rose (g.K.Sink.faults c.args.out.now) (g.K.Sink.faults c.write_all.new.out))
-          (T ++ piece) (O ++ text) told before now c.take.new.self c.some_refused.result at_end (sym c.some_refused.ensures) ended),
+      rw c.ended.ensures (ends words (IsAtEnd (g.S.Source.left c.next.new.self)) (Rose (g.S.Source.faults c.args.script.now) (g.S.Source.faults c.next.new.self)) (Rose (g.K.Sink.faults c.args.out.now) (g.K.Sink.faults c.write_all.new.out))
+          (T ++ piece) (O ++ text) told before now c.take.new.self c.some_refused.result at_end (sym c.some_refused.ensures) given ended),
     )
 
 pub returns-in-TooLong-clause-table : goal.returns-in-TooLong-clause-table
-returns-in-TooLong-clause-table g c =
+returns-in-TooLong-clause-table g c = λ words given.
     let inv = c.read.invariant in
     let T = inv.0 in
     let O = inv.1 in
     let piece = take c.in-Ok.count c.next.new.buf in
     let told = g.L.Library.files c.args.files.now in
-    let before = g.L.Library.faults c.args.files.now in
+    let before : Origin = record { budget = c.args.budget; faults = g.L.Library.faults c.args.files.now } in
     let mid = g.L.Library.faults c.read.files in
     let now = g.L.Library.faults c.take.new.files in
     let took = took_more _ _ _ _ _ _ T c.next.new.buf c.in-Ok.count inv.2.took c.in-Ok.ensures.bytes.0 c.in-Ok.ensures.bound.0 c.in-Ok.ensures.taken in
@@ -151,7 +151,7 @@ returns-in-TooLong-clause-table g c =
     (c.in-Ok-take.ensures.stands T O before here) in
     let written = c.in-Ok-write_all.ensures.written in
     let over = subst (λ (e : Extent). Stands e (T ++ piece) (O ++ text) told before now c.take.new.self) c.in-TooLong.is held in
-    let ends_so = goes_over (T ++ piece) (O ++ text) told before now c.take.new.self over in (
+    let ends_so = goes_over words (T ++ piece) (O ++ text) told before now c.take.new.self given over in (
       T ++ piece,
       O ++ text,
       over.answered.fetches,

@@ -9,7 +9,7 @@ abbrev pub invariant-read : goal.invariant-read
 invariant-read g l = (T : List ℕ) × (O : List ℕ) × record {
   took : Took (g.S.Source.left l.fn.script) (g.S.Source.left l.script) (g.S.Source.taken l.fn.script) (g.S.Source.taken l.script) T;
   wrote : Appends (g.K.Sink.held l.fn.out) (g.K.Sink.held l.out) O;
-  stands : Stands Within T O (g.L.Library.files l.fn.files) (g.L.Library.faults l.fn.files) (g.L.Library.faults l.files) l.reading;
+  stands : Stands Within T O (g.L.Library.files l.fn.files) (record { budget = l.fn.budget; faults = g.L.Library.faults l.fn.files }) (g.L.Library.faults l.files) l.reading;
   ready : IsReady l.reading;
   read_faults : g.S.Source.faults l.fn.script ≤ g.S.Source.faults l.script;
   write_faults : g.K.Sink.faults l.fn.out ≤ g.K.Sink.faults l.out;
