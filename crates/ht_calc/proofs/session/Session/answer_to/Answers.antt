@@ -38,4 +38,4 @@ returns-in-Image-clause-step g c = λ bytes is.
 
 pub returns-in-Basis-clause-step : goal.returns-in-Basis-clause-step
 returns-in-Basis-clause-step g c = λ bytes is.
-    alone_or_err c.args.self.now c.args.self.now c.args.line (line.Basis c.in-Basis.field-0) c.basis.result (g.L.Library.files c.args.files.now) (g.L.Library.faults c.args.files.now) bytes c.in-Basis.is c.basis.ensures.step is
+    alone_or_err c.args.self.now c.args.self.now c.args.line (line.Basis c.in-Basis.name) c.basis.result (g.L.Library.files c.args.files.now) (g.L.Library.faults c.args.files.now) bytes c.in-Basis.is c.basis.ensures.step is
