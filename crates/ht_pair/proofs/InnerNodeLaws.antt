@@ -136,8 +136,8 @@ inner_under shape B basis (suc k) u h l top = elim (under_some_or_not u B) [
 pub inner_nodes : (shape : Shape) (B : List Word) → IsBasis shape B → (N : List Word) × ((w : Word) → IsWordOf shape w → ¬ IsUnderSome w B → Contains N w) × (shape.r + length N * (shape.n - 1) ≤ length B)
 inner_nodes shape B basis =
     let t = have_inner shape B root_word roots_part shape.r (λ a low high.
-        inner_under shape B basis (longest B) (root_word a) (record { root_low = low; root_high = high; letters = All-nil (IsLetter shape) }) (omega arith) (λ b c under.
-        subst (λ t. IsUnder b t) (sym (under_same under (omega arith))) (under_refl b))) in (
+    inner_under shape B basis (longest B) (root_word a) (record { root_low = low; root_high = high; letters = All-nil (IsLetter shape) }) (omega arith) (λ b c under.
+    subst (λ t. IsUnder b t) (sym (under_same under (omega arith))) (under_refl b))) in (
       t.inner,
       (λ w h none. t.holds w h w.root h.root_low h.root_high (record { rest = w.letters; is = refl }) none),
       omega (arith, t.size, no_more t.leaves B t.free t.listed),

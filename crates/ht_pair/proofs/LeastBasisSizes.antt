@@ -45,8 +45,12 @@ length-words_of shape (suc k) = length-expand_all shape (words_of shape k) ∙ a
 -- a basis with no word of more than k letters has at most so many words
 short_basis : (shape : Shape) (V : List Word) (k : ℕ) → IsBasis shape V → longest V ≤ k → length V ≤ shape.r * shape.n ^ k
 short_basis shape V k basis l =
-    omega (arith, length-words_of shape k, no_fewer_below shape V (words_of shape k) basis (words_of_basis shape k) (All-from_contains (λ w. IsUnderSome w V) (words_of shape k) (λ w c.
-    basis_holds shape V basis w (basis_word shape (words_of shape k) (words_of_basis shape k) w c) (omega (arith, words_of_length shape k w c)))))
+    omega (
+      arith,
+      length-words_of shape k,
+      no_fewer_below shape V (words_of shape k) basis (words_of_basis shape k) (All-from_contains (λ w. IsUnderSome w V) (words_of shape k) (λ w c.
+          basis_holds shape V basis w (basis_word shape (words_of shape k) (words_of_basis shape k) w c) (omega (arith, words_of_length shape k w c)))),
+    )
 
 -- with d expansions of the roots to the `from` words, the least semi-normal basis has at most r · n^d words
 pub quasinormal_size : (shape : Shape) (p : List Row) → IsPair shape p → IsReduced shape p → (X : List Word) → IsQuasinormal shape p X → (d : ℕ) → length p ≡ shape.r + d * (shape.n - 1) → length X ≤ shape.r * shape.n ^ d
@@ -54,7 +58,7 @@ quasinormal_size shape p pair reduced X q d e =
     let N = inner_nodes shape (from_words p) pair.from in
     let few : length N.0 ≤ d = fewer (length N.0) d (shape.n - 1) (length (from_words p)) shape.r N.2 (length-map p (λ (t : Row). t.from) ∙ e) (omega (arith, shape.letters_low)) in
     let V = rounds shape p pair reduced d (roots shape) N.0 (roots_basis shape) few (inner_at_roots shape p pair N.0 N.1)
-        (λ W semi. All-from_contains (λ w. IsUnderSome w (roots shape)) W (λ w c. under_roots shape w (basis_word shape W semi.basis w c))) in
+    (λ W semi. All-from_contains (λ w. IsUnderSome w (roots shape)) W (λ w c. under_roots shape w (basis_word shape W semi.basis w c))) in
     let lower = no_fewer_below shape X V.0 q.semi_normal.basis V.1.semi_normal.basis (q.least V.0 V.1.semi_normal) in
     omega (arith, lower, short_basis shape V.0 d V.1.semi_normal.basis (omega (arith, V.2, longest-roots shape.r)))
   where
