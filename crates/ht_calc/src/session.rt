@@ -65,10 +65,11 @@ impl Session {
     /// Answers one line, without its line feed. After a refused answer, and after want of memory,
     /// the session is as before. `reduce` and `let` take as long as the sorting of their rows, and
     /// `show` as long as the copying of its rows. `equal` makes one pass over the rows. A `let` with
-    /// factors makes one power for each factor, and one product for each factor but the first. A
-    /// `load` makes one fetch, once the group is set and there is room for the name, and no other
-    /// line makes any: it takes memory for the bytes of the file, at most 4,194,305, and a few passes
-    /// over them, and as long as the sorting of the file's rows.
+    /// factors makes one power for each factor, and one product for each factor but the first. An
+    /// `image` takes one step of the word's cone (`Image::step`), and `basis` as long as finding the
+    /// quasinormal basis (`quasinormal`). A `load` makes one fetch, once the group is set and there is
+    /// room for the name, and no other line makes any: it takes memory for the bytes of the file, at
+    /// most 4,194,305, and a few passes over them, and as long as the sorting of the file's rows.
     pub fn answer<L: Library>(
         &mut self,
         alloc: Global,
