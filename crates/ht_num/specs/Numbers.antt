@@ -3,10 +3,11 @@
 --
 --     IsLeastPositive P m    m is the least number from 1 on with the property
 --     IsLeastMultiple P k    k is the least common multiple of all numbers with the property, and 1 where there are none
+--     IsLcm a b k            k is the least common multiple of a and b
 --     IsRatio b a p q        p / q is b / a in lowest terms
 --     IsWide k               k is past 2^127 - 1
 --     IsSomeWide ks          one of the numbers is wide
-use Rattle.std.specs.Prelude.{ℕ, ◌≡◌, ◌≤◌, ◌<◌, ◌*◌, ◌^◌, List, Contains}
+use Rattle.std.specs.Prelude.{ℕ, ◌≡◌, ◌≤◌, ◌<◌, ◌*◌, ◌^◌, ◌⊎◌, List, Contains}
 use Rattle.std.specs.Int.{◌∣◌, IsGcd}
 
 pub record IsLeastPositive (P : ℕ → Type 0) (m : ℕ) : Type 0 where
@@ -16,6 +17,9 @@ pub record IsLeastPositive (P : ℕ → Type 0) (m : ℕ) : Type 0 where
 
 abbrev pub IsLeastMultiple : (ℕ → Type 0) → ℕ → Type 0
 IsLeastMultiple P k = IsLeastPositive (λ j. (m : ℕ) → P m → m ∣ j) k
+
+abbrev pub IsLcm : ℕ → ℕ → ℕ → Type 0
+IsLcm a b k = IsLeastMultiple (λ m. (m ≡ a) ⊎ (m ≡ b)) k
 
 pub record IsRatio (b a p q : ℕ) : Type 0 where
   pub positive : 1 ≤ q

@@ -41,8 +41,8 @@ fn product_rows(alloc: Global, a: &Element, b: &Element) -> Result<Rows, NoMemor
     full_product(alloc, a.shape(), rows.as_slice(), others.as_slice())
 }
 
-// The rows of a product are a pair, so they are too large or memory is wanting.
-fn op_fault(fault: RowsFault) -> OpFault
+/// Why a pair is no element within the limits: it is too large, or memory is wanting. Constant time.
+pub fn op_fault(fault: RowsFault) -> OpFault
     requires { IsPairFault fault }
     ensures { (rows letters : ℕ) → result ≡ op_fault.Large rows letters → fault ≡ rows_fault.Large rows letters }
 {

@@ -17,7 +17,7 @@ use Rattle.ht_pair.proofs.BasisLaws.{prefix_free_same, some_at, basis_word}
 use Rattle.ht_pair.proofs.CarriesLaws.{carries_single, carries_word, carries_extends, carries_back, carries_rest, carries_sum, carries_itself}
 
 -- a power carries a word of X to y and more letters, y in X: then the power back carries y to no word under X, unless there are no more letters
-strict_ends : (shape : Shape) (p : List Row) → IsPair shape p → (X : List Word) → IsBasis shape X → (k : ℤ) (x y : Word) (z : List ℕ) → Contains X x → Carries shape p k x (y · z) → CarriesUnder shape p (neg_ℤ k) y X → z ≡ []
+pub strict_ends : (shape : Shape) (p : List Row) → IsPair shape p → (X : List Word) → IsBasis shape X → (k : ℤ) (x y : Word) (z : List ℕ) → Contains X x → Carries shape p k x (y · z) → CarriesUnder shape p (neg_ℤ k) y X → z ≡ []
 strict_ends shape p pair X b k x y z c carries under =
     let hz = word_rest shape y z (carries_word shape p pair k x (y · z) carries) in
     let back : x ≡ under.to · z = carries_single shape p pair (neg_ℤ k) (y · z) x (under.to · z) (carries_back shape p pair k x (y · z) carries) (carries_extends shape p (neg_ℤ k) y under.to z hz under.carries) in

@@ -1,15 +1,15 @@
--- Conjugacy is an equivalence of pairs.
+-- Conjugacy is an equivalence of pairs, and pairs that move words alike conjugate alike.
 use Rattle.std.proofs.Common.{◌≡◌, List, sym, subst, arith}
 use Rattle.ht_word.specs.Words.{◌·◌}
 use Rattle.ht_word.specs.declared.shape.Shape.{Shape}
 use Rattle.ht_word.specs.declared.word.Word.{Word}
 use Rattle.ht_word.proofs.WordLaws.{after_cancel_right, ones}
-use Rattle.ht_pair.specs.Actions.{Moves}
+use Rattle.ht_pair.specs.Actions.{Moves, Alike}
 use Rattle.ht_pair.specs.Conjugacy.{Conjugates, AreConjugate}
 use Rattle.ht_pair.specs.Pairs.{IsPair, turned, identity}
 use Rattle.ht_pair.specs.declared.row.Row.{Row}
 use Rattle.ht_pair.proofs.IdentityLaws.{identity_pair, identity_moves}
-use Rattle.ht_pair.proofs.MovesLaws.{turned_pair, moves_back, moves_map}
+use Rattle.ht_pair.proofs.MovesLaws.{moves_extends, turned_pair, moves_back, moves_map}
 use Rattle.ht_pair.proofs.PrefixMapLaws.{Then, long_word, moved_long}
 use Rattle.ht_pair.proofs.ProductLaws.{product_exists}
 
@@ -74,3 +74,20 @@ pub conjugate_trans : (shape : Shape) (a b c : List Row) → IsPair shape a → 
 conjugate_trans shape a b c pair_a pair_b pair_c first second =
     let s = product_exists shape first.by second.by first.conjugates.pair second.conjugates.pair in
     record { by = s.rows; conjugates = conjugates_product shape first.by second.by s.rows a b c pair_a pair_b pair_c s.pair s.by first.conjugates second.conjugates }
+
+-- a pair that moves words as a conjugator does conjugates
+pub conjugates_alike : (shape : Shape) (h q a b : List Row) → IsPair shape a → IsPair shape q → Alike shape q h → Conjugates shape h a b → Conjugates shape q a b
+conjugates_alike shape h q a b pair_a pair alike c = record {
+  pair = pair;
+  commutes = λ u u' v v' w word f g e k.
+      -- q sends u to v and u' to v', as h does behind letters enough
+      let mh = (moves_map shape h c.pair).ahead in
+      let z = ones mh.bound in
+      let long = long_word shape u mh.bound word in
+      let word' = (moves_map shape a pair_a).ahead.word u u' word f in
+      let x = moved_long shape (Moves h) mh u mh.bound word (omega arith) in
+      let x' = moved_long shape (Moves h) mh u' mh.bound word' (omega arith) in
+      let same : x.0 ≡ v · z = sym (alike (u · z) (v · z) x.0 long (moves_extends q u v z e) x.1) in
+      let same' : x'.0 ≡ v' · z = sym (alike (u' · z) (v' · z) x'.0 (long_word shape u' mh.bound word') (moves_extends q u' v' z g) x'.1) in
+      after_cancel_right w v' z (c.commutes (u · z) (u' · z) (v · z) (v' · z) (w · z) long (moves_extends a u u' z f) (subst (λ t. Moves h (u' · z) t) same' x'.1) (subst (λ t. Moves h (u · z) t) same x.1) (moves_extends b v w z k));
+}

@@ -1,14 +1,15 @@
--- What conjugates two elements conjugates their powers.
-use Rattle.std.proofs.Common.{◌≡◌, ℕ, zero, suc, ◌+◌, List, sym, ◌∙◌, subst, arith, ℤ, pos, negsuc}
+-- What conjugates two elements conjugates their powers, and sends the words that a power of one carries to those that the power of
+-- the other carries.
+use Rattle.std.proofs.Common.{◌≡◌, ℕ, zero, suc, ◌+◌, List, ◌++◌, sym, ◌∙◌, subst, arith, ℤ, pos, negsuc}
 use Rattle.ht_word.specs.Words.{IsWordOf, ◌·◌}
 use Rattle.ht_word.specs.declared.shape.Shape.{Shape}
 use Rattle.ht_word.specs.declared.word.Word.{Word}
-use Rattle.ht_word.proofs.WordLaws.{after_cancel_right, ones}
+use Rattle.ht_word.proofs.WordLaws.{after-append, after_cancel_right, letters_append, word_after, ones, ones_letters}
 use Rattle.ht_pair.specs.Actions.{Moves}
 use Rattle.ht_pair.specs.Conjugacy.{Conjugates}
 use Rattle.ht_pair.specs.Pairs.{IsPair, turned}
 use Rattle.ht_pair.specs.Products.{IsPower}
-use Rattle.ht_pair.specs.Steps.{StepsAhead, Steps}
+use Rattle.ht_pair.specs.Steps.{StepsAhead, Steps, Carries}
 use Rattle.ht_pair.specs.declared.row.Row.{Row}
 use Rattle.ht_pair.proofs.MovesLaws.{turned_pair, moves_back, moves_map}
 use Rattle.ht_pair.proofs.PrefixMapLaws.{long_word, moved_long}
@@ -69,4 +70,19 @@ conjugates_power shape h a b s t k pair_a pair_b c hs ht = record {
       let second : y.0 ≡ w · z = ht.stepped (v · z) y.0 (w · z) (long_word shape v size word_v) y.1 ((moves_map shape t ht.pair).ahead.extends v w z l) in
       let steps = conjugates_steps shape h a b pair_a pair_b c k (u · z) (u' · z) (v · z) (v' · z) y.0 long_u (subst (λ q. Steps a k (u · z) q) first x.1) (mh.extends u' v' z g) (mh.extends u v z e) y.1 in
       after_cancel_right w v' z (sym second ∙ steps);
+}
+
+-- where the k-th power of a carries u to u', that of b carries what h moves u to to what h moves u' to
+pub conjugates_carries : (shape : Shape) (h a b : List Row) → IsPair shape a → IsPair shape b → Conjugates shape h a b → (k : ℤ) (u u' v v' : Word) → Carries shape a k u u' → Moves h u v → Moves h u' v' → Carries shape b k v v'
+conjugates_carries shape h a b pair_a pair_b c k u u' v v' carries e g = record {
+  word = (moves_map shape h c.pair).ahead.word u v carries.word e;
+  carried = λ y w hy s.
+      let sa = (steps_map shape a pair_a k).ahead in
+      let mh = (moves_map shape h c.pair).ahead in
+      let z = ones sa.bound in
+      let word = word_after shape u y carries.word hy in
+      let x = moved_long shape (Steps a k) sa (u · y) sa.bound word (omega arith) in
+      let there : x.0 ≡ (u' · y) · z = carries.carried (y ++ z) x.0 (letters_append shape y z hy (ones_letters shape sa.bound)) (subst (λ t. Steps a k t x.0) (after-append u y z) x.1) ∙ sym (after-append u' y z) in
+      after_cancel_right w (v' · y) z (conjugates_steps shape h a b pair_a pair_b c k ((u · y) · z) ((u' · y) · z) ((v · y) · z) ((v' · y) · z) (w · z) (long_word shape (u · y) sa.bound word) (subst (λ t. Steps a k ((u · y) · z) t) there x.1)
+      (mh.extends (u' · y) (v' · y) z (mh.extends u' v' y g)) (mh.extends (u · y) (v · y) z (mh.extends u v y e)) ((steps_map shape b pair_b k).ahead.extends (v · y) w z s));
 }

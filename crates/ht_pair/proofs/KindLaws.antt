@@ -11,7 +11,7 @@ use Rattle.ht_pair.specs.Kinds.{IsCycle, Lengthens, IsAttractor, IsRepeller}
 use Rattle.ht_pair.specs.Pairs.{IsPair, turned}
 use Rattle.ht_pair.specs.Steps.{Carries}
 use Rattle.ht_pair.specs.declared.row.Row.{Row}
-use Rattle.ht_pair.proofs.CarriesLaws.{carries_single, carries_word, carries_extends, carries_none, carries_back, carries_sum, carries_itself}
+use Rattle.ht_pair.proofs.CarriesLaws.{carries_single, carries_word, carries_extends, carries_none, carries_add, carries_back, carries_sum, carries_itself}
 use Rattle.ht_pair.proofs.MovesLaws.{turned_pair}
 use Rattle.ht_pair.proofs.TurnedLaws.{carries_of_turned, carries_to_turned}
 
@@ -41,6 +41,14 @@ carries_times shape p pair m x G c (suc s) =
     let hG = word_rest shape x G (carries_word shape p pair (pos m) x (x · G) c) in
     carries_sum shape p pair (pos m) (pos (s * m)) (pos (suc s * m)) (omega (arith, ints)) x (x · G) (x · (repeated s G ++ G)) c
     (subst (λ t. Carries shape p (pos (s * m)) (x · G) t) (after-append x (repeated s G) G) (carries_extends shape p (pos (s * m)) x (x · repeated s G) G hG r))
+
+-- the N-th power, which lengthens x by G, lengthens by G what a power carries x to
+pub lengthened_there : (shape : Shape) (p : List Row) → IsPair shape p → (i : ℤ) (N : ℕ) (x t : Word) (G : List ℕ) → Carries shape p i x t → Carries shape p (pos N) x (x · G) → Carries shape p (pos N) t (t · G)
+lengthened_there shape p pair i N x t G c grows =
+    let hG = word_rest shape x G (carries_word shape p pair (pos N) x (x · G) grows) in
+    carries_sum shape p pair (neg_ℤ i +ℤ pos N) i (pos N) (omega (arith, ints)) t (x · G) (t · G)
+    (carries_add shape p pair (neg_ℤ i) (pos N) t x (x · G) (carries_back shape p pair i x t c) grows)
+    (carries_extends shape p i x t G hG c)
 
 -- no letters, however often, are no letters
 nothing_repeated : (m : ℕ) → repeated m [] ≡ []

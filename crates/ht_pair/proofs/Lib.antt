@@ -18,6 +18,7 @@ pub mod ConjugacyLaws
 pub mod ReducedLaws
 pub mod CanonicalLaws
 pub mod StepsLaws
+pub mod ConjugatePowerLaws
 pub mod CarriesLaws
 pub mod MeetLaws
 pub mod SemiNormalLaws
@@ -38,16 +39,10 @@ pub mod TurnedLaws
 pub mod PowerLaws
 pub mod PowerProducts
 pub mod LargePowerLaws
-pub mod ConjugatePowerLaws
-pub mod KindLaws
-pub mod ReachLaws
-pub mod PartLaws
 pub mod ImageLaws
 pub mod ValueListLaws
-pub mod OrbitLaws
-pub mod TogetherLaws
-pub mod AtomLaws
-pub mod LocalConjugacyLaws
-pub mod PowerRuleLaws
 pub mod HeldBasisLaws
 pub mod RowSearch
+pub mod KindLaws
+pub mod PartLaws
+pub mod LocalConjugacyLaws

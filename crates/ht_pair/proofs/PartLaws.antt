@@ -1,12 +1,13 @@
--- The parts of an element and its profile are determined.
-use Rattle.std.proofs.Common.{◌≡◌, ℕ, ◌<◌, inl, inr, List, sym, ◌∙◌, subst, arith, Contains, ◌+◌}
+-- The words of a list with a property; and that the parts of an element and its profile are determined.
+use Rattle.std.proofs.Common.{◌≡◌, ℕ, ◌<◌, ◌⊎◌, inl, inr, List, [], ◌∷◌, sym, ◌∙◌, subst, arith, Contains, ◌+◌}
+use Rattle.std.proofs.lemmas.List.Elements.{All-contains}
 use Rattle.std.specs.declared.cmp.Ordering.TheVariants.{Less}
-use Rattle.ht_word.specs.Words.{◌·◌, IsUnderSome, word_cmp}
+use Rattle.ht_word.specs.Words.{◌·◌, IsUnderSome, IsAscending, word_cmp}
 use Rattle.ht_word.specs.declared.shape.Shape.{Shape}
 use Rattle.ht_word.specs.declared.word.Word.{Word}
 use Rattle.ht_word.proofs.Deciding.{same_word_or_not}
-use Rattle.ht_word.proofs.ListLaws.{ascending_same}
-use Rattle.ht_word.proofs.WordLaws.{after_cancel_right, ones, word_cmp_once}
+use Rattle.ht_word.proofs.ListLaws.{Contains-nil, Contains-here, Contains-there, Contains-cons_cases, AllPairs-nil, AllPairs-cons, AllPairs-head, AllPairs-tail, ascending_same}
+use Rattle.ht_word.proofs.WordLaws.{All-from_contains, after_cancel_right, ones, word_cmp_once}
 use Rattle.ht_pair.specs.Actions.{Moves, Alike}
 use Rattle.ht_pair.specs.Bases.{longest, IsBasis}
 use Rattle.ht_pair.specs.Kinds.{IsCycleWord}
@@ -17,6 +18,45 @@ use Rattle.ht_pair.specs.declared.row.Row.{Row}
 use Rattle.ht_pair.proofs.BasisLaws.{basis_holds}
 use Rattle.ht_pair.proofs.MovesLaws.{moves_map}
 use Rattle.ht_pair.proofs.PrefixMapLaws.{long_word, length-long, moved_long}
+
+-- the words of an ascending list with a property, in order
+pub select : (P : Word → Type 0) (X : List Word) → ((x : Word) → Contains X x → P x ⊎ ¬ P x) → IsAscending X → (W : List Word) × IsSelected P X W
+select P [] told ascending = ([], record { ascending = AllPairs-nil (λ u v. word_cmp u v ≡ Less); same = λ x. ((λ c. absurd (Contains-nil x c)), (λ h. absurd (Contains-nil x h.0))) })
+select P (y ∷ X) told ascending =
+    let R : Word → Word → Type 0 = λ u v. word_cmp u v ≡ Less in
+    let rest = select P X (λ x c. told x (Contains-there y X x c)) (AllPairs-tail R y X ascending) in
+    let W = rest.0 in
+    elim (told y (Contains-here y X)) [
+      | inl h ↦ (
+        y ∷ W,
+        record {
+          ascending = AllPairs-cons R y W (All-from_contains (R y) W (λ x c. All-contains (R y) X x (AllPairs-head R y X ascending) ((rest.1.same x).0 c).0)) rest.1.ascending;
+          same = λ x. (
+            (λ c. elim (Contains-cons_cases y W x c) [
+              | inl e ↦ (subst (Contains (y ∷ X)) e (Contains-here y X), subst P e h)
+              | inr d ↦ (let g = (rest.1.same x).0 d in (Contains-there y X x g.0, g.1))
+            ]),
+            (λ g. elim (Contains-cons_cases y X x g.0) [
+              | inl e ↦ subst (Contains (y ∷ W)) e (Contains-here y W)
+              | inr d ↦ Contains-there y W x ((rest.1.same x).1 (d, g.1))
+            ]),
+          );
+        },
+      )
+      | inr n ↦ (
+        W,
+        record {
+          ascending = rest.1.ascending;
+          same = λ x. (
+            (λ c. let g = (rest.1.same x).0 c in (Contains-there y X x g.0, g.1)),
+            (λ g. elim (Contains-cons_cases y X x g.0) [
+              | inl e ↦ absurd (n (subst P (sym e) g.1))
+              | inr d ↦ (rest.1.same x).1 (d, g.1)
+            ]),
+          );
+        },
+      )
+    ]
 
 -- two ascending lists of the words of X with a property are one
 pub selected_once : (P : Word → Type 0) (X W V : List Word) → IsSelected P X W → IsSelected P X V → W ≡ V

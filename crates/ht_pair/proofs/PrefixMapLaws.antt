@@ -1,8 +1,8 @@
 -- Relations that replace prefixes of words, as the moves of a pair and all that is composed of them; and the pair of rows
 -- that such a relation has.
-use Rattle.std.proofs.Common.{◌≡◌, ℕ, ◌≤◌, inl, inr, List, [], ◌∷◌, length, refl, sym, ap, ◌∙◌, subst, arith, Contains, ◌+◌, drop, subst₂}
+use Rattle.std.proofs.Common.{◌≡◌, ℕ, ◌≤◌, inl, inr, List, [], ◌∷◌, length, refl, sym, ap, ◌∙◌, subst, arith, All, Contains, ◌+◌, drop, subst₂}
 use Rattle.std.proofs.lemmas.List.{length-drop}
-use Rattle.ht_word.specs.Words.{IsWordOf, ◌·◌}
+use Rattle.ht_word.specs.Words.{IsWordOf, IsUnderSome, ◌·◌}
 use Rattle.ht_word.specs.declared.shape.Shape.{Shape}
 use Rattle.ht_word.specs.declared.word.Word.{Word}
 use Rattle.ht_word.proofs.ListLaws.{Contains-nil, Contains-here, Contains-there, Contains-cons_cases, Contains-map, contained_in_map, AllPairs-weaker, AllPairs-from_map, AllPairs-map}
@@ -106,7 +106,7 @@ pub record RowsOf (F : Word → Word → Type 0) (W : List Word) : Type 0 where
   pub by : (row : Row) → Contains rows row → F row.from row.to
 
 -- F gives rows from each list whose words it sends somewhere
-rows_of : (F : Word → Word → Type 0) (W : List Word) → ((w : Word) → Contains W w → (v : Word) × F w v) → RowsOf F W
+pub rows_of : (F : Word → Word → Type 0) (W : List Word) → ((w : Word) → Contains W w → (v : Word) × F w v) → RowsOf F W
 rows_of F [] f = record { rows = []; from_is = refl; by = λ row c. absurd (Contains-nil row c) }
 rows_of F (w ∷ W) f =
     let rest = rows_of F W (λ x c. f x (Contains-there w W x c)) in
@@ -135,36 +135,40 @@ apart_carried shape F m u v u' v' hu hv f g apart = (
 )
 
 -- the `from` word of such a row is in the list
-from_listed : (F : Word → Word → Type 0) (U : List Word) (r : RowsOf F U) (row : Row) → Contains r.rows row → Contains U row.from
+pub from_listed : (F : Word → Word → Type 0) (U : List Word) (r : RowsOf F U) (row : Row) → Contains r.rows row → Contains U row.from
 from_listed F U r row c = subst (λ (W : List Word). Contains W row.from) r.from_is (Contains-map (λ (t : Row). t.from) r.rows row c)
 
--- the rows from a basis go to words that are apart
-rows_free : (shape : Shape) (F : Word → Word → Type 0) → IsPrefixMap shape F → (U : List Word) → IsBasis shape U → (r : RowsOf F U) → IsPrefixFree (to_words r.rows)
-rows_free shape F m U basis r =
-    let from_free : IsPrefixFree (from_words r.rows) = subst IsPrefixFree (sym r.from_is) basis.prefix_free in
+-- the rows from words that are apart go to words that are apart
+pub rows_free : (shape : Shape) (F : Word → Word → Type 0) → IsPrefixMap shape F → (U : List Word) → ((u : Word) → Contains U u → IsWordOf shape u) → IsPrefixFree U → (r : RowsOf F U) → IsPrefixFree (to_words r.rows)
+rows_free shape F m U words free r =
+    let from_free : IsPrefixFree (from_words r.rows) = subst IsPrefixFree (sym r.from_is) free in
     AllPairs-map (λ (t : Row). t.to) AreApart r.rows
     (AllPairs-weaker (λ x y. AreApart x.from y.from) (λ x y. AreApart x.to y.to) r.rows (AllPairs-from_map (λ (t : Row). t.from) AreApart r.rows from_free)
-    (λ x y c e a. apart_carried shape F m x.from y.from x.to y.to (basis_word shape U basis x.from (from_listed F U r x c)) (basis_word shape U basis y.from (from_listed F U r y e)) (r.by x c) (r.by y e) a))
+    (λ x y c e a. apart_carried shape F m x.from y.from x.to y.to (words x.from (from_listed F U r x c)) (words y.from (from_listed F U r y e)) (r.by x c) (r.by y e) a))
 
 -- the rows move words as F does
 pub rows_move : (shape : Shape) (F : Word → Word → Type 0) → IsCarrying shape F → (U : List Word) (r : RowsOf F U) (u v : Word) → Moves r.rows u v → F u v
 rows_move shape F m U r u v h = subst₂ F (sym h.from) (sym h.to) (m.extends h.row.from h.row.to h.rest (r.by h.row h.listed))
 
+-- the rows go to words of the shape
+pub rows_words : (shape : Shape) (F : Word → Word → Type 0) → IsCarrying shape F → (U : List Word) → ((u : Word) → Contains U u → IsWordOf shape u) → (r : RowsOf F U) → All (IsWordOf shape) (to_words r.rows)
+rows_words shape F m U words r = All-from_contains (IsWordOf shape) (to_words r.rows) (λ w c.
+    let g = contained_in_map (λ (t : Row). t.to) r.rows w c in
+    subst (IsWordOf shape) g.2 (m.word g.0.from g.0.to (words g.0.from (from_listed F U r g.0 g.1)) (r.by g.0 g.1)))
+
+-- what F sends a word under the list to is under the words that the rows go to
+pub rows_under : (shape : Shape) (F : Word → Word → Type 0) → IsCarrying shape F → (U : List Word) (r : RowsOf F U) (u v : Word) → IsWordOf shape u → IsUnderSome u U → F u v → IsUnderSome v (to_words r.rows)
+rows_under shape F m U r u v hu s sent =
+    let g = contained_in_map (λ (t : Row). t.from) r.rows s.above (subst (λ (W : List Word). Contains W s.above) (sym r.from_is) s.listed) in
+    let moved : F u (g.0.to · s.under.rest) = subst (λ t. F t (g.0.to · s.under.rest)) (ap (λ t. t · s.under.rest) g.2 ∙ sym s.under.is) (m.extends g.0.from g.0.to s.under.rest (r.by g.0 g.1)) in
+    some_at (to_words r.rows) g.0.to v (Contains-map (λ (t : Row). t.to) r.rows g.0 g.1) (record { rest = s.under.rest; is = m.single u v (g.0.to · s.under.rest) hu sent moved })
+
 -- the rows from a basis of words of at most k letters go to a basis
 pub rows_basis : (shape : Shape) (F : Word → Word → Type 0) → IsPrefixMap shape F → (k : ℕ) (U : List Word) → IsBasis shape U → longest U ≤ k → (r : RowsOf F U) → IsBasis shape (to_words r.rows)
-rows_basis shape F m k U basis short r = basis_from shape (to_words r.rows)
-    (All-from_contains (IsWordOf shape) (to_words r.rows) (λ w c.
-    let g = contained_in_map (λ (t : Row). t.to) r.rows w c in
-    subst (IsWordOf shape) g.2 (m.ahead.word g.0.from g.0.to (basis_word shape U basis g.0.from (from_listed F U r g.0 g.1)) (r.by g.0 g.1))))
-    (rows_free shape F m U basis r)
-    (m.behind.bound + k)
-    (λ v h l.
+rows_basis shape F m k U basis short r = basis_from shape (to_words r.rows) (rows_words shape F m.ahead U (basis_word shape U basis) r) (rows_free shape F m U (basis_word shape U basis) basis.prefix_free r) (m.behind.bound + k) (λ v h l.
     let u = m.behind.total v h (omega arith) in
     let hu = m.behind.word v u.0 h u.1 in
-    let s = basis_holds shape U basis u.0 hu (omega (arith, short, length-carried shape (back F) m.behind v u.0 k h l u.1)) in
-    let g = contained_in_map (λ (t : Row). t.from) r.rows s.above (subst (λ (W : List Word). Contains W s.above) (sym r.from_is) s.listed) in
-    let moved : F u.0 (g.0.to · s.under.rest) = subst (λ t. F t (g.0.to · s.under.rest)) (ap (λ t. t · s.under.rest) g.2 ∙ sym s.under.is) (m.ahead.extends g.0.from g.0.to s.under.rest (r.by g.0 g.1)) in
-    some_at (to_words r.rows) g.0.to v (Contains-map (λ (t : Row). t.to) r.rows g.0 g.1) (record { rest = s.under.rest; is = m.ahead.single u.0 v (g.0.to · s.under.rest) hu u.1 moved }))
+    rows_under shape F m.ahead U r u.0 v hu (basis_holds shape U basis u.0 hu (omega (arith, short, length-carried shape (back F) m.behind v u.0 k h l u.1))) u.1)
 
 -- each bijection of the long enough words that keeps what follows a prefix is the moves of a pair
 pub realised : (shape : Shape) (F : Word → Word → Type 0) → IsPrefixMap shape F → IsRealised shape F

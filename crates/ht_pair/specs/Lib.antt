@@ -29,6 +29,7 @@ pub mod Addresses
 pub mod Atoms
 pub mod LocalConjugacy
 pub mod NormalConjugators
+pub mod Verdicts
 pub mod PowerSizes
 pub mod PowerTrials
 pub mod FiniteTrials

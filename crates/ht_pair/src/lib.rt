@@ -13,20 +13,20 @@
 //! - `pair`: the test whether rows are a pair
 //! - `tiling`: the test whether sorted words are a basis
 //! - `side`: the `from` words or the `to` words of rows, and sorting by them
-//! - `laws`: the laws that show the definitions right
+//! - `verdict`: whether elements are conjugate
 #![tactic(auto)]
 
 mod basis;
 mod element;
 mod fault;
 mod headed;
-pub mod laws;
 mod moves;
 mod pair;
 mod reduce;
 mod row;
 mod side;
 mod tiling;
+mod verdict;
 
 pub use basis::Basis;
 pub use element::Element;
@@ -35,3 +35,4 @@ pub use moves::place_of;
 pub use reduce::{merge_table, reduce_rows};
 pub use row::{Row, Rows};
 pub use side::Side;
+pub use verdict::Verdict;

@@ -19,11 +19,11 @@ use Rattle.ht_quasi.specs.Kept.{HaveSteps}
 use Rattle.ht_quasi.specs.Rounds.{GoesTo, GoesBelow, HasStep, AreSteps}
 
 -- a canonical pair carries by one step what it moves
-moved_carries : (shape : Shape) (p : List Row) → IsCanonical shape p → (u v : Word) → IsWordOf shape u → Moves p u v → Carries shape p (pos 1) u v
+pub moved_carries : (shape : Shape) (p : List Row) → IsCanonical shape p → (u v : Word) → IsWordOf shape u → Moves p u v → Carries shape p (pos 1) u v
 moved_carries shape p canonical u v h m = carries_from_steps shape p canonical.pair (pos 1) u v h (u, refl, m)
 
 -- and nothing else
-carried_moves : (shape : Shape) (p : List Row) → IsCanonical shape p → (u v : Word) → Carries shape p (pos 1) u v → Moves p u v
+pub carried_moves : (shape : Shape) (p : List Row) → IsCanonical shape p → (u v : Word) → Carries shape p (pos 1) u v → Moves p u v
 carried_moves shape p canonical u v c =
     reduced_moves shape Everywhere p (reduced_pair shape p canonical.pair canonical.reduced) u v c.word tt (record { at = λ z w hz m. c.carried z w hz (u · z, refl, m) })
 

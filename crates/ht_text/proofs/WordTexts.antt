@@ -1,9 +1,9 @@
 -- Texts of words, in their parts.
-use Rattle.std.proofs.Common.{◌≡◌, ◌≢◌, ◌<◌, ◌≤◌, ℕ, ◌+◌, ◌⊎◌, inl, inr, List, [], ◌∷◌, ◌++◌, get_or, length, refl, sym, ap, ◌∙◌, subst, arith, append-nil, append_assoc, take, drop}
+use Rattle.std.proofs.Common.{◌≡◌, ◌≢◌, ◌<◌, ◌≤◌, ℕ, ◌+◌, ◌⊎◌, inl, inr, List, [], ◌∷◌, ◌++◌, get_or, length, refl, sym, ap, ◌∙◌, subst, arith, append-nil, take, drop}
 use Rattle.std.specs.Prelude.{All, decimal, map}
 use Rattle.std.specs.Int.{IsInRange}
 use Rattle.std.proofs.lemmas.List.{get_or-map, length-map, map-append, take-append-drop}
-use Rattle.std.proofs.lemmas.List.Elements.{All-nil, All-map}
+use Rattle.std.proofs.lemmas.List.Elements.{All-nil, All-map, All-tail}
 use Rattle.ht_word.specs.declared.word.Word.{Word}
 use Rattle.ht_word.proofs.WordLaws.{word_eq}
 use Rattle.ht_text.specs.Texts.{IsNum, IsRoot, AreLetters, IsDigitLetter, HasText, IsWord, letter_code, letters_text, word_text}
@@ -105,15 +105,28 @@ lettered_parts front digits w free h = elim (word_parts (front ++ 46 ∷ digits)
       (subst (λ t. IsRoot t w.root) (sym same.0) lettered.is_root, subst (λ t. AreLetters t w.letters) (sym same.1) lettered.are_letters)
 ]
 
--- some letters and not the others were written behind the `.`
-pub adds_letters : (old new z : List ℕ) (i : ℕ) → 0 < length z → new ≡ (old ++ 46 ∷ []) ++ map letter_code (take i z) → AddsFront old new (letters_text z)
-adds_letters old new [] i some wrote = absurd (omega arith)
-adds_letters old new (a ∷ z) i some wrote = record {
-  front = 46 ∷ map letter_code (take i (a ∷ z));
-  rest = map letter_code (drop i (a ∷ z));
-  text_is = ap (λ t. 46 ∷ t) (ap (λ t. map letter_code t) (sym (take-append-drop i (a ∷ z))) ∙ map-append letter_code (take i (a ∷ z)) (drop i (a ∷ z)));
-  new_is = wrote ∙ append_assoc old (46 ∷ []) (map letter_code (take i (a ∷ z)));
+-- some letters and not the others were written
+pub adds_letters : (old new z : List ℕ) (i : ℕ) → new ≡ old ++ map letter_code (take i z) → AddsFront old new (map letter_code z)
+adds_letters old new z i wrote = record {
+  front = map letter_code (take i z);
+  rest = map letter_code (drop i z);
+  text_is = ap (λ t. map letter_code t) (sym (take-append-drop i z)) ∙ map-append letter_code (take i z) (drop i z);
+  new_is = wrote;
 }
+
+-- where there are letters, their text begins with the `.`
+dotted_text : (z : List ℕ) → 0 < length z → letters_text z ≡ 46 ∷ map letter_code z
+dotted_text [] some = absurd (omega arith)
+dotted_text (a ∷ z) some = refl
+
+-- the text of letters in two parts
+pub parts_text : (y z : List ℕ) → 0 < length (y ++ z) → letters_text (y ++ z) ≡ (46 ∷ map letter_code y) ++ map letter_code z
+parts_text y z some = dotted_text (y ++ z) some ∙ ap (λ t. 46 ∷ t) (map-append letter_code y z)
+
+-- the letters of the second part
+pub second_part : (y z : List ℕ) → All IsDigitLetter (y ++ z) → All IsDigitLetter z
+second_part [] z h = h
+second_part (a ∷ y) z h = second_part y z (All-tail IsDigitLetter a (y ++ z) h)
 
 -- the digits of letters tell the letters
 same_letters : (y z : List ℕ) → map letter_code y ≡ map letter_code z → y ≡ z

@@ -35,6 +35,6 @@ pub use laws::{
     an_elements_file_is_read_back, files_are_one_value, number_texts_are_one_number,
     row_texts_are_one_list, word_texts_are_one_word,
 };
-pub use number::{read_num, write_num, write_size};
+pub use number::{read_num, write_natural, write_num, write_size};
 pub use rows::{read_rows, write_rows};
-pub use word::{read_word, write_word};
+pub use word::{read_word, write_joined, write_letters, write_word};

@@ -63,3 +63,13 @@ pub fn write_size(n: usize, out: &mut Vec<u8>) -> Result<(), NoMemory>
     out.extend_from_slice(Buffer::new().format(n).as_bytes())?;
     Ok(())
 }
+
+/// Appends the decimal digits of a number, at most 39 bytes. After a refusal `out` holds what it
+/// held and a front of them.
+pub fn write_natural(n: u128, out: &mut Vec<u8>) -> Result<(), NoMemory>
+    ensures ok { OnOk result (out.new.items ≡ out.old.items ++ decimal n) }
+    ensures err { OnErr result (AddsFront out.old.items out.new.items (decimal n)) }
+{
+    out.extend_from_slice(Buffer::new().format(n).as_bytes())?;
+    Ok(())
+}

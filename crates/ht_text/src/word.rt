@@ -1,7 +1,8 @@
 //! Texts of words.
-ghost use Rattle.std.specs.Prelude.{◌≡◌, ◌++◌, ℕ, List, All, IfOk, OnOk, OnErr, MatchOption};
+ghost use Rattle.std.specs.Prelude.{◌≡◌, ◌++◌, ◌<◌, ℕ, List, All, length, map, IfOk, OnOk, OnErr, MatchOption};
 ghost use Rattle.ht_word.specs.declared.word.Word.{Word};
-ghost use Rattle.ht_text.specs.Texts.{IsDigitLetter, HasText, letters_text, word_text, IsRoot, AreLetters, IsWord};
+ghost use Rattle.ht_word.specs.Words.{◌·◌};
+ghost use Rattle.ht_text.specs.Texts.{IsDigitLetter, HasText, letter_code, letters_text, word_text, IsRoot, AreLetters, IsWord};
 ghost use Rattle.ht_text.specs.Writes.{AddsFront};
 
 use crate::bytes::{after, cut};
@@ -16,21 +17,52 @@ pub fn write_word(w: &Word, out: &mut Vec<u8>) -> Result<(), NoMemory>
     ensures ok { OnOk result (out.new.items ≡ out.old.items ++ word_text w.now) }
     ensures err { OnErr result (AddsFront out.old.items out.new.items (word_text w.now)) }
 {
-    out.push(b'x')?;
-    write_num(w.root as u32, out)?;
-    write_letters(w.letters.as_slice(), out)
+    write_joined(w, b"", out)
 }
 
-// Appends the text of letters. One pass over them.
-fn write_letters(letters: &[u8], out: &mut Vec<u8>) -> Result<(), NoMemory>
-    requires { All IsDigitLetter letters.now }
-    ensures ok { OnOk result (out.new.items ≡ out.old.items ++ letters_text letters.now) }
-    ensures err { OnErr result (AddsFront out.old.items out.new.items (letters_text letters.now)) }
+/// Appends the text of the word with more letters behind it. One pass over all letters. After a
+/// refusal `out` holds what it held and a front of the text.
+pub fn write_joined(w: &Word, more: &[u8], out: &mut Vec<u8>) -> Result<(), NoMemory>
+    requires { HasText (w.now · more.now) }
+    ensures ok { OnOk result (out.new.items ≡ out.old.items ++ word_text (w.now · more.now)) }
+    ensures err { OnErr result (AddsFront out.old.items out.new.items (word_text (w.now · more.now))) }
 {
-    if letters.is_empty() {
+    out.push(b'x')?;
+    write_num(w.root as u32, out)?;
+    write_parts(w.letters.as_slice(), more, out)
+}
+
+// Appends the text of letters in two parts. One pass over them.
+fn write_parts(letters: &[u8], more: &[u8], out: &mut Vec<u8>) -> Result<(), NoMemory>
+    requires { All IsDigitLetter (letters.now ++ more.now) }
+    ensures ok { OnOk result (out.new.items ≡ out.old.items ++ letters_text (letters.now ++ more.now)) }
+    ensures err { OnErr result (AddsFront out.old.items out.new.items (letters_text (letters.now ++ more.now))) }
+{
+    if letters.is_empty() && more.is_empty() {
         return Ok(());
     }
+    write_dotted(letters, more, out)
+}
+
+// Appends the text of letters in two parts, of which there are some. One pass over them.
+fn write_dotted(letters: &[u8], more: &[u8], out: &mut Vec<u8>) -> Result<(), NoMemory>
+    requires some { 0 < length (letters.now ++ more.now) }
+    requires digits { All IsDigitLetter (letters.now ++ more.now) }
+    ensures ok { OnOk result (out.new.items ≡ out.old.items ++ letters_text (letters.now ++ more.now)) }
+    ensures err { OnErr result (AddsFront out.old.items out.new.items (letters_text (letters.now ++ more.now))) }
+{
     out.push(b'.')?;
+    write_letters(letters, out)?;
+    write_letters(more, out)
+}
+
+/// Appends the digits of letters. One pass over them. After a refusal `out` holds what it held and
+/// a front of the digits.
+pub fn write_letters(letters: &[u8], out: &mut Vec<u8>) -> Result<(), NoMemory>
+    requires { All IsDigitLetter letters.now }
+    ensures ok { OnOk result (out.new.items ≡ out.old.items ++ map letter_code letters.now) }
+    ensures err { OnErr result (AddsFront out.old.items out.new.items (map letter_code letters.now)) }
+{
     for letter in letters {
         out.push(b'0' + *letter)?;
     }

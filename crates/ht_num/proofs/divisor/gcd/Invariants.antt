@@ -1,0 +1,10 @@
+use Rattle.std.proofs.Common.{ℕ}
+use Rattle.std.specs.Int.{IsGcd}
+use Rattle.ht_num.proofs.divisor.gcd.Given as goal
+
+-- the divisor of what is left is that of a and b
+abbrev pub invariant-loop-divisor : goal.invariant-loop-divisor
+invariant-loop-divisor l = (g : ℕ) → IsGcd l.divided l.divisor g → IsGcd l.a l.b g
+
+abbrev pub decreases-loop-divisor : goal.decreases-loop-divisor
+decreases-loop-divisor l = l.divisor

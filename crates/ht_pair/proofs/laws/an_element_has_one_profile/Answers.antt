@@ -1,5 +1,0 @@
-use Rattle.ht_pair.proofs.PartLaws.{profile_once}
-use Rattle.ht_pair.proofs.laws.an_element_has_one_profile.Goals as goal
-
-pub returns : goal.returns
-returns c = profile_once

@@ -1,8 +1,0 @@
-use Rattle.ht_pair.proofs.SizeLaws.{size_once, large_alike}
-use Rattle.ht_pair.proofs.laws.an_element_has_one_size.Goals as goal
-
-pub returns-clause-one : goal.returns-clause-one
-returns-clause-one c = size_once
-
-pub returns-clause-alike : goal.returns-clause-alike
-returns-clause-alike c = large_alike

@@ -1,5 +1,0 @@
-use Rattle.ht_pair.proofs.ConjugatePowerLaws.{conjugates_power}
-use Rattle.ht_pair.proofs.laws.conjugating_passes_to_powers.Goals as goal
-
-pub returns : goal.returns
-returns c = conjugates_power

@@ -1,5 +1,0 @@
-use Rattle.ht_pair.proofs.SemiNormalLaws.{semi_normal_meet}
-use Rattle.ht_pair.proofs.laws.semi_normal_bases_meet.Goals as goal
-
-pub returns : goal.returns
-returns c = semi_normal_meet

@@ -1,5 +1,0 @@
-use Rattle.ht_pair.proofs.OrbitLaws.{same_address}
-use Rattle.ht_pair.proofs.laws.words_with_one_address_share_an_orbit.Goals as goal
-
-pub returns : goal.returns
-returns c = same_address
