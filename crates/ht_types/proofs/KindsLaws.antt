@@ -1,0 +1,93 @@
+-- The kinds of all words of a basis, told by the courses ahead and back.
+use Rattle.std.proofs.Common.{◌≡◌, ℕ, zero, suc, ◌<◌, ◌^◌, List, [], ◌∷◌, length, map, Some, slice_get, refl, sym, ap, ◌∙◌, subst, arith, pos, neg_ℤ}
+use Rattle.std.specs.Prelude.{zip, All}
+use Rattle.std.proofs.lemmas.Option.{slice_get_within, slice_get-get_or}
+use Rattle.ht_word.specs.declared.shape.Shape.{Shape}
+use Rattle.ht_word.specs.declared.word.Word.{Word}
+use Rattle.ht_word.proofs.WordLaws.{All-from_contains}
+use Rattle.ht_pair.specs.declared.row.Row.{Row}
+use Rattle.ht_pair.specs.Pairs.{IsPair}
+use Rattle.ht_pair.specs.Products.{IsPower}
+use Rattle.ht_pair.specs.SemiNormal.{IsSemiNormal}
+use Rattle.ht_types.specs.declared.course.Course.{Course}
+use Rattle.ht_types.specs.declared.course.Course.TheVariants.{Ends, Returns, Joins}
+use Rattle.ht_types.specs.declared.kind.Kind.{Kind}
+use Rattle.ht_types.specs.declared.step.Step.{Step}
+use Rattle.ht_types.specs.declared.step.Step.TheVariants.{Leads}
+use Rattle.ht_types.specs.Courses.{AreInside, HasCourse, AreCourses}
+use Rattle.ht_types.specs.TypedElements.{HasShortReach, HasShortReaches}
+use Rattle.ht_types.specs.WordKinds.{HasKind, AreKinds}
+use Rattle.ht_types.specs.WordSteps.{AreSteps, reach_of, turned_kind, told_kind}
+use Rattle.ht_types.proofs.CourseSizes.{joins_short}
+use Rattle.ht_types.proofs.MirrorLaws.{inverse_mirrors}
+use Rattle.ht_types.proofs.ToldLaws.{told_right}
+
+-- what stands at a place of a list, if the place is one
+pub some_at : {T : Type 0} (xs : List T) (place : ℕ) → place < length xs → (x : T) × (slice_get xs place ≡ Some x)
+some_at [] place l = absurd (omega arith)
+some_at (x ∷ xs) zero l = (x, refl)
+some_at (x ∷ xs) (suc place) l = some_at xs place (omega arith)
+
+-- steps lead to words of the basis
+pub steps_inside : (shape : Shape) (p : List Row) (X : List Word) (steps : List Step) → AreSteps shape p X steps → AreInside steps
+steps_inside shape p X steps h x y rest here =
+    let at = some_at X x (let l = slice_get_within steps x (Leads y rest) here in omega (arith, l, h.as_many)) in
+    let to = h.each x at.0 (Leads y rest) at.1 here in
+    let l = slice_get_within X y to.above to.here in
+    omega (arith, l, h.as_many)
+
+-- two lists of courses of one basis
+pub record AreCoursesOf (shape : Shape) (p : List Row) (X : List Word) (courses : List Course) : Type 0 where
+  pub steps : List Step
+  pub are : AreSteps shape p X steps
+  pub told : AreCourses steps courses
+
+-- told for the element's shape
+pub courses_of_shape : (of shape : Shape) (p : List Row) (X : List Word) (courses : List Course) → of ≡ shape → (steps : List Step) × AreSteps of p X steps × AreCourses steps courses → AreCoursesOf shape p X courses
+courses_of_shape of shape p X courses same h = record { steps = h.0; are = subst (λ (s : Shape). AreSteps s p X h.0) same h.1; told = h.2 }
+
+pair_at : (ahead behind : List Course) (place : ℕ) (kind : Kind) → slice_get (map (λ p. told_kind p.0 p.1) (zip ahead behind)) place ≡ Some kind → (a : Course) × (b : Course) × (slice_get ahead place ≡ Some a) × (slice_get behind place ≡ Some b) × (told_kind a b ≡ kind)
+pair_at [] behind place kind e = absurd cc
+pair_at (a ∷ ahead) [] place kind e = absurd cc
+pair_at (a ∷ ahead) (b ∷ behind) zero kind e = (a, b, refl, refl, cc)
+pair_at (a ∷ ahead) (b ∷ behind) (suc place) kind e = pair_at ahead behind place kind e
+
+many_kinds : (ahead behind : List Course) → length ahead ≡ length behind → length (map (λ p. told_kind p.0 p.1) (zip ahead behind)) ≡ length ahead
+many_kinds [] behind e = refl
+many_kinds (a ∷ ahead) [] e = absurd (omega arith)
+many_kinds (a ∷ ahead) (b ∷ behind) e = ap suc (many_kinds ahead behind (omega arith))
+
+-- the kinds that they tell are those of the words
+pub kinds_right : (shape : Shape) (p q : List Row) (X : List Word) (ahead behind : List Course) (kinds : List Kind) → IsPair shape p → IsPair shape q → IsPower shape p (neg_ℤ (pos 1)) q → IsSemiNormal shape p X → AreCoursesOf shape p X ahead → AreCoursesOf shape q X behind
+    → kinds ≡ map (λ p. told_kind p.0 p.1) (zip ahead behind) → AreKinds shape p X kinds
+kinds_right shape p q X ahead behind kinds pair_p pair_q inverse semi there back e = subst (AreKinds shape p X) (sym e) (record {
+  as_many = omega (arith, many_kinds ahead behind (omega (arith, there.are.as_many, there.told.as_many, back.are.as_many, back.told.as_many)), there.are.as_many, there.told.as_many);
+  each = λ place x kind here at.
+      let both = pair_at ahead behind place kind at in
+      subst (λ (k : Kind). HasKind shape p X x k) both.4
+      (told_right shape p q pair_p pair_q (inverse_mirrors shape p q pair_p inverse) X semi there.steps back.steps there.are back.are place x both.0 both.1 here (there.told.each place both.0 both.2) (back.told.each place both.1 both.3));
+})
+
+short_course : (steps : List Step) (x : ℕ) (course : Course) → length steps < 2 ^ 121 → HasCourse steps x course → HasShortReach (reach_of course)
+short_course steps x Ends few h = tt
+short_course steps x (Returns m by) few h = tt
+short_course steps x (Joins reach) few h = let l = joins_short steps x (reach) h in omega (arith, l, few)
+
+short_behind : (a b : Course) → HasShortReach (reach_of a) → HasShortReach (reach_of b) → HasShortReaches (turned_kind a b)
+short_behind a Ends first second = (first, tt)
+short_behind a (Returns m by) first second = tt
+short_behind a (Joins reach) first second = (first, second)
+
+short_told : (a b : Course) → HasShortReach (reach_of a) → HasShortReach (reach_of b) → HasShortReaches (told_kind a b)
+short_told Ends b first second = short_behind Ends b first second
+short_told (Returns m []) b first second = tt
+short_told (Returns m (l ∷ by)) b first second = tt
+short_told (Joins reach) b first second = short_behind (Joins reach) b first second
+
+-- and their reaches are short
+pub kinds_short : (shape : Shape) (p q : List Row) (X : List Word) (ahead behind : List Course) (kinds : List Kind) → length X < 2 ^ 121 → AreCoursesOf shape p X ahead → AreCoursesOf shape q X behind → kinds ≡ map (λ p. told_kind p.0 p.1) (zip ahead behind) → All HasShortReaches kinds
+kinds_short shape p q X ahead behind kinds few there back e = subst (All HasShortReaches) (sym e) (All-from_contains HasShortReaches (map (λ p. told_kind p.0 p.1) (zip ahead behind)) (λ kind c.
+    let all = map (λ p. told_kind p.0 p.1) (zip ahead behind) in
+    let both = pair_at ahead behind c.0 kind (slice_get-get_or all c.0 kind c.1 ∙ ap (λ (k : Kind). Some k) c.2) in
+    subst HasShortReaches both.4
+    (short_told both.0 both.1 (short_course there.steps c.0 both.0 (omega (arith, there.are.as_many, few)) (there.told.each c.0 both.0 both.2)) (short_course back.steps c.0 both.1 (omega (arith, back.are.as_many, few)) (back.told.each c.0 both.1 both.3)))))

@@ -1,0 +1,30 @@
+use Rattle.std.proofs.Common.{◌<◌, List, ℕ, length, sym, ap, ◌∙◌, subst}
+use Rattle.std.proofs.lemmas.Option.{slice_get_within}
+use Rattle.ht_word.specs.Words.{◌·◌}
+use Rattle.ht_word.specs.declared.word.Word.{Word}
+use Rattle.ht_quasi.proofs.StepLaws.{splits_unmoved, splits_outside}
+use Rattle.ht_types.proofs.StepLaws.{splits_step, leads_there}
+use Rattle.ht_types.proofs.step.step_of.Goals as goal
+
+pub returns-in_default : goal.returns-in_default
+returns-in_default c =
+    let shape = c.args.a.now.shape in
+    let rows = c.args.a.now.rows in
+    splits_step shape rows c.args.basis.now.words c.args.word.now (splits_unmoved shape rows c.keeps_limits.ensures.canonical c.args.basis.now.words c.args.word.now (rw c.in_default.is at c.in_ok-moved.ensures))
+
+pub returns-in_default-find : goal.returns-in_default-find
+returns-in_default-find c =
+    let shape = c.args.a.now.shape in
+    let rows = c.args.a.now.rows in
+    splits_step shape rows c.args.basis.now.words c.args.word.now
+    (splits_outside shape rows c.keeps_limits.ensures.canonical c.args.basis.now.words c.args.word.now c.in-Some.moved c.requires (rw c.in-Some.is at c.in_ok-moved.ensures) c.in_default-find.ensures)
+
+pub at-requires : goal.at-requires
+at-requires c =
+    let here = c.in-Some-find.ensures in
+    subst (λ (t : List Word). c.in-Some-find.to < length t) (sym c.words.ensures.words) (slice_get_within c.args.basis.now.words c.in-Some-find.to here.word here.here)
+
+pub returns : goal.returns
+returns c =
+    leads_there c.args.a.now.shape c.args.a.now.rows c.keeps_limits.ensures.canonical c.args.basis.now.words c.words.result.now c.args.word.now c.in-Some.moved c.at.result.now c.in_ok-rest.rest c.in-Some-find.to c.requires
+    (rw c.in-Some.is at c.in_ok-moved.ensures) c.words.ensures.words c.at.ensures (c.in-Some-rest_after.ensures ∙ ap (λ (z : List ℕ). c.at.result.now · z) (sym c.in_ok-rest.ensures))

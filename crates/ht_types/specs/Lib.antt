@@ -1,0 +1,9 @@
+pub use Rattle.ht_quasi.specs.Quasis
+pub mod WordKinds
+pub mod TypedElements
+pub mod KnownOrders
+pub mod Courses
+pub mod CourseStates
+pub mod WordSteps
+pub mod Flows
+pub mod Shares
