@@ -1,0 +1,13 @@
+pub mod RunLaws
+pub mod ProfileLaws
+pub mod LevelLaws
+pub mod RepresentativeLaws
+pub mod MatchingLaws
+pub mod MatchedCycleLaws
+pub mod ConjugateProfileLaws
+pub mod PickedLaws
+pub mod SeedLaws
+pub mod CycleRowLaws
+pub mod MatchedLengthLaws
+pub mod MatchLaws
+pub mod PeriodicPartLaws

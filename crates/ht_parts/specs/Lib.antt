@@ -1,0 +1,3 @@
+pub use Rattle.ht_types.specs.KnownOrders
+pub mod LargeParts
+pub mod PartRows
