@@ -1,0 +1,6 @@
+pub mod AttractorLaws
+pub mod AddressLaws
+pub mod FlowingLaws
+pub mod HeadLaws
+pub mod StripLaws
+pub mod AddressMade

@@ -1,0 +1,3 @@
+pub use Rattle.ht_types.specs.TypedElements
+pub mod Flowing
+pub mod Rounds

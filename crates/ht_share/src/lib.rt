@@ -1,0 +1,24 @@
+//! Which words share an orbit of an element, and its ponds.
+//!
+//! `Sharer::new(&t).share(alloc, &u, &v)?` is a number of steps that lead from the one word to the
+//! other. `ponds(alloc, &t)?` lists all ponds of the element of `t`.
+//!
+//! - `sharer`: the answers for words under the basis
+//! - `periodic`: those for words under the periodic part
+//! - `infinite`: those for words under the infinite part
+//! - `carried`: whether a power carries a word to a word
+//! - `inner`: the words that one step carries to no word under the basis
+//! - `pond`: the ponds
+//! - `laws`: what holds of words that share an orbit
+#![tactic(auto)]
+
+mod carried;
+mod infinite;
+mod inner;
+pub mod laws;
+mod periodic;
+mod pond;
+mod sharer;
+
+pub use pond::ponds;
+pub use sharer::Sharer;
