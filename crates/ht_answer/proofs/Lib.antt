@@ -1,1 +1,3 @@
 pub mod AnswerTexts
+pub mod Pieces
+pub mod TypesTexts

@@ -3,6 +3,7 @@ ghost use Rattle.std.specs.Prelude.{◌↔◌, IsTrue};
 ghost use Rattle.ht_answer.specs.Answers.{IsRefusal};
 
 use ht_pair::Rows;
+use ht_types::{Kinds, Order, Ponds, Profile};
 use ht_word::{Name, Words};
 
 /// The answer to a line.
@@ -22,6 +23,25 @@ pub enum Answer {
     Equal(bool),
     /// To `basis`: the words of the basis asked for, at least one.
     Basis(Words),
+    /// To `order`: the order, which is never `Order::Wide` here; that is a refusal.
+    Order(Order),
+    /// To `types`: the words of the basis asked for, at least one, and the kind of each.
+    Types { words: Words, kinds: Kinds },
+    /// To `profile`: the profile.
+    Profile(Profile),
+    /// To `parts`: the numbers of rows of the canonical pairs of the two parts.
+    Parts { periodic: usize, infinite: usize },
+    /// To `conj`: the canonical pair of an element that conjugates the first into the second.
+    Conjugate { rows: Rows },
+    /// To `conj`: the same, where the element is too large to be kept, and the letters of its longest
+    /// word.
+    NotKept { letters: usize, rows: Rows },
+    /// To `conj`: no element conjugates the first into the second.
+    NotConjugate,
+    /// To `ponds`: all ponds, in order of their first words.
+    Ponds(Ponds),
+    /// To `share`: the number that the two words share an orbit by.
+    Share(Option<i128>),
     /// The line changed nothing.
     Refused(Refusal),
 }
@@ -59,6 +79,11 @@ pub enum Refusal {
     Word(u8),
     /// The quasinormal basis of the element of this name takes more expansions than the budget has.
     Budget(Name),
+    /// Conjugacy isn't decided where an infinite part isn't empty.
+    Infinite,
+    /// The word of this number on the line, from 1, is the first that isn't under the quasinormal
+    /// basis of the element.
+    Above(u8),
 }
 
 impl Answer {

@@ -5,12 +5,18 @@
 //!
 //! - `answer`: answers and refusals
 //! - `text`: their texts
+//! - `types`: the text of the answer to `types`
+//! - `profile`: the text of the answer to `profile`
+//! - `orbit`: the texts of the answers to `share` and `ponds`
 //! - `laws`: what the texts tell
 #![tactic(auto)]
 
 mod answer;
 mod laws;
+mod orbit;
+mod profile;
 mod text;
+mod types;
 
 pub use answer::{Answer, Refusal};
 pub use laws::refusals_are_told_by_their_texts;

@@ -1,17 +1,22 @@
 //! The texts of answers.
-ghost use Rattle.std.specs.Prelude.{◌≡◌, ◌++◌, OnOk, OnErr, codes};
+ghost use Rattle.std.specs.Prelude.{◌≡◌, ◌++◌, OnOk, OnErr, codes, decimal};
 ghost use Rattle.std.specs.List.{flat_map};
 ghost use Rattle.ht_text.specs.Texts.{HasText, HasRowsText};
 ghost use Rattle.ht_text.specs.Writes.{AddsFront};
-ghost use Rattle.ht_answer.specs.Answers.{HasWordsText, HasAnswerText, number_line, name_line, spaced_text, words_text, refusal_text, answer_text};
+ghost use Rattle.ht_answer.specs.Answers.{HasWordsText, HasAnswerText, number_line, name_line, rows_line, spaced_text, words_text, refusal_text, answer_text};
+ghost use Rattle.ht_answer.specs.OrderTexts.{order_line};
 
 use crate::answer::{Answer, Refusal};
+use crate::orbit::{print_ponds, print_share};
+use crate::profile::print_profile;
+use crate::types::print_types;
 use ht_pair::Rows;
-use ht_text::{write_num, write_rows, write_size, write_word};
+use ht_text::{write_natural, write_num, write_rows, write_size, write_word};
+use ht_types::Order;
 use ht_word::{Name, NoMemory, Word, Words};
 
-/// Appends the text of an answer, with its line feed. One pass over its rows or words. After a refusal `out`
-/// holds what it held and a front of the text.
+/// Appends the text of an answer, with its line feed. One pass over its rows, words or entries. After a
+/// refusal `out` holds what it held and a front of the text.
 pub fn print(answer: &Answer, out: &mut Vec<u8>) -> Result<(), NoMemory>
     requires { HasAnswerText answer.now }
     ensures ok { OnOk result (out.new.items ≡ out.old.items ++ answer_text answer.now) }
@@ -19,32 +24,32 @@ pub fn print(answer: &Answer, out: &mut Vec<u8>) -> Result<(), NoMemory>
 {
     match answer {
         Answer::Blank => Ok(()),
-        Answer::Group { n, r } => print_group(*n, *r, out),
-        Answer::Pair(rows) => print_pair(rows, out),
+        Answer::Group { n, r } => write_numbers(b"group ", *n as usize, *r as usize, out),
+        Answer::Pair(rows) => print_rows(b"", rows, out),
         Answer::Let { name, rows } => print_bound(b"let ", name, *rows, out),
         Answer::Load { name, rows } => print_bound(b"load ", name, *rows, out),
         Answer::Equal(alike) => print_equal(*alike, out),
         Answer::Basis(words) => print_basis(words, out),
+        Answer::Order(order) => print_order(*order, out),
+        Answer::Types { words, kinds } => print_types(words, kinds, out),
+        Answer::Profile(profile) => print_profile(profile, out),
+        Answer::Parts { periodic, infinite } => write_numbers(b"parts ", *periodic, *infinite, out),
+        Answer::Conjugate { rows } => print_rows(b"conjugate ", rows, out),
+        Answer::NotKept { letters, rows } => print_not_kept(*letters, rows, out),
+        Answer::NotConjugate => write_text(b"not conjugate\n", out),
+        Answer::Ponds(ponds) => print_ponds(ponds, out),
+        Answer::Share(shared) => print_share(*shared, out),
         Answer::Refused(why) => print_refusal(why, out),
     }
 }
 
-// Appends the answer to `group`.
-fn print_group(n: u32, r: u32, out: &mut Vec<u8>) -> Result<(), NoMemory>
-    ensures ok { OnOk result (out.new.items ≡ out.old.items ++ answer_text (Answer.Group n r)) }
-    ensures err { OnErr result (AddsFront out.old.items out.new.items (answer_text (Answer.Group n r))) }
-{
-    out.extend_from_slice(b"group ")?;
-    write_num(n, out)?;
-    write_line(b" ", r as usize, out)
-}
-
-// Appends rows as an answer.
-fn print_pair(rows: &Rows, out: &mut Vec<u8>) -> Result<(), NoMemory>
+// Appends a line: a text and rows.
+fn print_rows(text: &[u8], rows: &Rows, out: &mut Vec<u8>) -> Result<(), NoMemory>
     requires { HasRowsText rows.now }
-    ensures ok { OnOk result (out.new.items ≡ out.old.items ++ answer_text (Answer.Pair rows.now)) }
-    ensures err { OnErr result (AddsFront out.old.items out.new.items (answer_text (Answer.Pair rows.now))) }
+    ensures ok { OnOk result (out.new.items ≡ out.old.items ++ rows_line text.now rows.now) }
+    ensures err { OnErr result (AddsFront out.old.items out.new.items (rows_line text.now rows.now)) }
 {
+    out.extend_from_slice(text)?;
     write_rows(rows, out)?;
     out.push(b'\n')?;
     Ok(())
@@ -118,6 +123,40 @@ fn write_spaced(word: &Word, out: &mut Vec<u8>) -> Result<(), NoMemory>
     write_word(word, out)
 }
 
+// Appends the answer to `order`; nothing for a wide one.
+fn print_order(order: Order, out: &mut Vec<u8>) -> Result<(), NoMemory>
+    ensures ok { OnOk result (out.new.items ≡ out.old.items ++ order_line order) }
+    ensures err { OnErr result (AddsFront out.old.items out.new.items (order_line order)) }
+{
+    match order {
+        Order::Finite(k) => print_finite(k, out),
+        Order::Infinite => write_text(b"order infinite\n", out),
+        Order::Wide => Ok(()),
+    }
+}
+
+// Appends a finite order as an answer.
+fn print_finite(k: u128, out: &mut Vec<u8>) -> Result<(), NoMemory>
+    ensures ok { OnOk result (out.new.items ≡ out.old.items ++ number_line (codes "order ") k) }
+    ensures err { OnErr result (AddsFront out.old.items out.new.items (number_line (codes "order ") k)) }
+{
+    out.extend_from_slice(b"order ")?;
+    write_natural(k, out)?;
+    out.push(b'\n')?;
+    Ok(())
+}
+
+// Appends the answer of a conjugator that isn't kept.
+fn print_not_kept(letters: usize, rows: &Rows, out: &mut Vec<u8>) -> Result<(), NoMemory>
+    requires { HasRowsText rows.now }
+    ensures ok { OnOk result (out.new.items ≡ out.old.items ++ answer_text (Answer.NotKept letters rows.now)) }
+    ensures err { OnErr result (AddsFront out.old.items out.new.items (answer_text (Answer.NotKept letters rows.now))) }
+{
+    write_number(b"conjugate not kept ", rows.len(), out)?;
+    write_number(b" ", letters, out)?;
+    print_rows(b" ", rows, out)
+}
+
 // Appends the text of a refusal.
 fn print_refusal(why: &Refusal, out: &mut Vec<u8>) -> Result<(), NoMemory>
     ensures ok { OnOk result (out.new.items ≡ out.old.items ++ refusal_text why.now) }
@@ -135,9 +174,11 @@ fn print_refusal(why: &Refusal, out: &mut Vec<u8>) -> Result<(), NoMemory>
         Refusal::RowsFrom => write_text(b"refused: rows from\n", out),
         Refusal::RowsTo => write_text(b"refused: rows to\n", out),
         Refusal::Wide => write_text(b"refused: wide\n", out),
-        Refusal::Large { rows, letters } => print_large(*rows, *letters, out),
+        Refusal::Large { rows, letters } => write_numbers(b"refused: large ", *rows, *letters, out),
         Refusal::Word(place) => write_line(b"refused: word ", *place as usize, out),
         Refusal::Budget(name) => write_named(b"refused: budget ", name, out),
+        Refusal::Infinite => write_text(b"refused: infinite\n", out),
+        Refusal::Above(place) => write_line(b"refused: above ", *place as usize, out),
     }
 }
 
@@ -152,14 +193,18 @@ fn write_named(text: &[u8], name: &Name, out: &mut Vec<u8>) -> Result<(), NoMemo
     Ok(())
 }
 
-// Appends the refusal of an element that is too large.
-fn print_large(rows: usize, letters: usize, out: &mut Vec<u8>) -> Result<(), NoMemory>
-    ensures ok { OnOk result (out.new.items ≡ out.old.items ++ refusal_text (Refusal.Large rows letters)) }
-    ensures err { OnErr result (AddsFront out.old.items out.new.items (refusal_text (Refusal.Large rows letters))) }
+// Appends a line: a text and two numbers.
+fn write_numbers(
+    text: &[u8],
+    first: usize,
+    second: usize,
+    out: &mut Vec<u8>,
+) -> Result<(), NoMemory>
+    ensures ok { OnOk result (out.new.items ≡ out.old.items ++ (text.now ++ decimal first ++ number_line (codes " ") second)) }
+    ensures err { OnErr result (AddsFront out.old.items out.new.items (text.now ++ decimal first ++ number_line (codes " ") second)) }
 {
-    out.extend_from_slice(b"refused: large ")?;
-    write_size(rows, out)?;
-    write_line(b" ", letters, out)
+    write_number(text, first, out)?;
+    write_line(b" ", second, out)
 }
 
 // Appends the end of a line: a text and a number.
@@ -167,10 +212,18 @@ fn write_line(text: &[u8], n: usize, out: &mut Vec<u8>) -> Result<(), NoMemory>
     ensures ok { OnOk result (out.new.items ≡ out.old.items ++ number_line text.now n) }
     ensures err { OnErr result (AddsFront out.old.items out.new.items (number_line text.now n)) }
 {
-    out.extend_from_slice(text)?;
-    write_size(n, out)?;
+    write_number(text, n, out)?;
     out.push(b'\n')?;
     Ok(())
+}
+
+// Appends a text and a number.
+fn write_number(text: &[u8], n: usize, out: &mut Vec<u8>) -> Result<(), NoMemory>
+    ensures ok { OnOk result (out.new.items ≡ out.old.items ++ (text.now ++ decimal n)) }
+    ensures err { OnErr result (AddsFront out.old.items out.new.items (text.now ++ decimal n)) }
+{
+    out.extend_from_slice(text)?;
+    write_size(n, out)
 }
 
 // Appends a text, whole or not at all.

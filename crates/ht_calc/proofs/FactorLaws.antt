@@ -1,9 +1,10 @@
 -- Factors, and the terms that they stand for.
 use Rattle.std.proofs.Common.{◌≡◌, ◌≢◌, ◌<◌, ℕ, suc, List, [], ◌∷◌, ◌++◌, length, take, drop, get_or, refl, sym, ap, ◌∙◌, subst, Option, Some, None, Contains}
 use Rattle.std.proofs.Math.Seq.{split_at}
+use Rattle.std.proofs.lemmas.List.{map-append}
 use Rattle.std.proofs.lemmas.List.Elements.{All-contains}
 use Rattle.ht_word.specs.declared.shape.Shape.{Shape}
-use Rattle.ht_word.proofs.ListLaws.{Contains-here, Contains-there}
+use Rattle.ht_word.proofs.ListLaws.{Contains-here, Contains-there, Contains-map}
 use Rattle.ht_word.proofs.WordLaws.{All-from_contains}
 use Rattle.ht_pair.specs.declared.row.Row.{Row}
 use Rattle.ht_pair.specs.Elements.{ElementValue}
@@ -11,39 +12,36 @@ use Rattle.ht_pair.specs.Pairs.{IsPair}
 use Rattle.ht_script.specs.declared.factor.Exponent.{Exponent}
 use Rattle.ht_script.specs.declared.factor.Exponent.TheVariants.{Fits, Wide}
 use Rattle.ht_script.specs.declared.factor.Factor.{Factor}
-use Rattle.ht_calc.specs.Names.{rows_by_name, IsOfShape, AreOfShape, bound}
-use Rattle.ht_calc.specs.Products.{Term, StandFor, IsBound, AreBound, IsFirstUnbound, HasWide}
+use Rattle.ht_calc.specs.Names.{rows_by_name, IsOfShape, AreOfShape, bound, AreBound, IsFirstUnbound}
+use Rattle.ht_calc.specs.Products.{Term, names_of, StandFor, HasWide}
 use Rattle.ht_calc.specs.Terms.{AreTermsOf, HasTerm}
 use Rattle.ht_calc.proofs.NameLaws.{rows_of, bound_rows, bound_somewhere, bound_of_shape}
 use Rattle.ht_calc.proofs.TermLaws.{HasTerms}
 
 -- the factor at a place, where those before it are bound, is the first that isn't
-pub first_unbound_at : (names : List (List ℕ × ElementValue)) (factors : List Factor) (i : ℕ) (factor : Factor) → i < length factors → factor ≡ get_or factors i factor → AreBound names (take i factors) → bound names factor.name ≡ None → IsFirstUnbound names factors factor.name
+pub first_unbound_at : (names : List (List ℕ × ElementValue)) (factors : List Factor) (i : ℕ) (factor : Factor) → i < length factors → factor ≡ get_or factors i factor → AreBound names (names_of (take i factors)) → bound names factor.name ≡ None
+    → IsFirstUnbound names (names_of factors) factor.name
 first_unbound_at names factors i factor within is before none = record {
-  before = take i factors;
-  factor = factor;
-  behind = drop (suc i) factors;
-  are = split_at factors i factor within ∙ ap (λ (t : Factor). take i factors ++ t ∷ drop (suc i) factors) (sym is);
+  before = names_of (take i factors);
+  behind = names_of (drop (suc i) factors);
+  are = ap names_of (split_at factors i factor within ∙ ap (λ (t : Factor). take i factors ++ t ∷ drop (suc i) factors) (sym is)) ∙ map-append (λ (t : Factor). t.name) (take i factors) (factor ∷ drop (suc i) factors);
   bound_before = before;
   unbound = none;
-  name_is = refl;
 }
 
 -- what is bound by the elements is bound by their rows
-pub bound_by_rows : (names : List (List ℕ × ElementValue)) (factors : List Factor) → AreBound names factors → AreBound (rows_by_name names) factors
-bound_by_rows names factors h = All-from_contains (λ (factor : Factor). IsBound (rows_by_name names) factor) factors (λ factor c.
-    subst (λ (t : Option (List Row)). t ≢ None) (sym (bound_rows names factor.name)) ((bound_somewhere (bound names factor.name)).1 (All-contains (λ (t : Factor). IsBound names t) factors factor h c)))
+pub bound_by_rows : (names : List (List ℕ × ElementValue)) (asked : List (List ℕ)) → AreBound names asked → AreBound (rows_by_name names) asked
+bound_by_rows names asked h = All-from_contains (λ name. bound (rows_by_name names) name ≢ None) asked (λ name c.
+    subst (λ (t : Option (List Row)). t ≢ None) (sym (bound_rows names name)) ((bound_somewhere (bound names name)).1 (All-contains (λ t. bound names t ≢ None) asked name h c)))
 
 -- and what is not bound isn't
-pub unbound_by_rows : (names : List (List ℕ × ElementValue)) (factors : List Factor) (name : List ℕ) → IsFirstUnbound names factors name → IsFirstUnbound (rows_by_name names) factors name
-unbound_by_rows names factors name h = record {
+pub unbound_by_rows : (names : List (List ℕ × ElementValue)) (asked : List (List ℕ)) (name : List ℕ) → IsFirstUnbound names asked name → IsFirstUnbound (rows_by_name names) asked name
+unbound_by_rows names asked name h = record {
   before = h.before;
-  factor = h.factor;
   behind = h.behind;
   are = h.are;
   bound_before = bound_by_rows names h.before h.bound_before;
-  unbound = bound_rows names h.factor.name ∙ ap rows_of h.unbound;
-  name_is = h.name_is;
+  unbound = bound_rows names name ∙ ap rows_of h.unbound;
 }
 
 -- the element that a bound name has
@@ -77,9 +75,9 @@ all_terms shape names (factor ∷ factors) has =
     (term.0 ∷ later.0, (term.1, later.1))
 
 -- factors whose names are bound and whose exponents are not wide have terms
-pub have_terms : (shape : Shape) (names : List (List ℕ × ElementValue)) (factors : List Factor) → AreOfShape (Some shape) names → AreBound names factors → ¬ HasWide factors → HasTerms shape names factors
+pub have_terms : (shape : Shape) (names : List (List ℕ × ElementValue)) (factors : List Factor) → AreOfShape (Some shape) names → AreBound names (names_of factors) → ¬ HasWide factors → HasTerms shape names factors
 have_terms shape names factors of_shape are_bound narrow = all_terms shape names factors (λ factor c.
-    let found = some_element (bound names factor.name) (All-contains (λ (t : Factor). IsBound names t) factors factor are_bound c) in
+    let found = some_element (bound names factor.name) (All-contains (λ t. bound names t ≢ None) (names_of factors) factor.name are_bound (Contains-map (λ (t : Factor). t.name) factors factor c)) in
     term_at shape names factor factor.exponent found.element refl found.is (bound_of_shape (Some shape) names factor.name found.element of_shape found.is)
     (λ wide. narrow (c.0, factor, c.1, c.2, wide)))
 
@@ -91,7 +89,7 @@ terms_stand shape names (factor ∷ factors) [] h = h
 terms_stand shape names (factor ∷ factors) (term ∷ terms) h = (bound_rows names factor.name ∙ ap rows_of h.0.element, h.0.exponent, terms_stand shape names factors terms h.1)
 
 -- the terms of a line's factors
-pub line_terms : (set : Option Shape) (shape : Shape) (names : List (List ℕ × ElementValue)) (slice : List Factor) → set ≡ Some shape → AreOfShape set names → AreBound names slice → ¬ HasWide slice → HasTerms shape names slice
+pub line_terms : (set : Option Shape) (shape : Shape) (names : List (List ℕ × ElementValue)) (slice : List Factor) → set ≡ Some shape → AreOfShape set names → AreBound names (names_of slice) → ¬ HasWide slice → HasTerms shape names slice
 line_terms set shape names slice some of_shape are_bound narrow =
     have_terms shape names slice (subst (λ t. AreOfShape t names) some of_shape) are_bound narrow
 

@@ -10,5 +10,13 @@ pub mod Streams
 pub mod RunLaws
 pub mod Standing
 pub mod QuestionTexts
+mod QuestionLaws
+pub mod KindTexts
+pub mod TypedLaws
+pub mod PartSteps
+pub mod ShareLaws
+pub mod ShareSteps
+pub mod ConjugatorLaws
+pub mod ConjugatorSteps
 pub mod StepLaws
 pub mod TermLaws

@@ -16,7 +16,7 @@ use Rattle.ht_calc.specs.Loads.{Loads, loaded, no_file, file_refused}
 use Rattle.ht_calc.specs.Names.{bind, HasRoom}
 use Rattle.ht_calc.specs.Products.{Term, StandFor, IsLargeProduct}
 use Rattle.ht_calc.specs.States.{State}
-use Rattle.ht_calc.specs.Steps.{Does, Step, blank, group_is_set, group_refused, before_group, reduced, reduce_refused, let_bound, let_no_room, let_refused, product_bound, product_unbound, product_no_room, product_wide, product_large, load_no_room, shown, show_unbound, compared, first_unbound, second_unbound, image_shown, image_unbound, image_foreign, basis_shown, basis_unbound, basis_over, by_line, by_file, no_line}
+use Rattle.ht_calc.specs.Steps.{Does, Step, blank, group_is_set, group_refused, before_group, unbound, no_room, over_budget, reduced, reduce_refused, let_bound, let_refused, product_bound, product_wide, product_large, questioned, parts_bound, parts_large, conjugator_bound, conjugator_not_kept, not_conjugate, undecided, compared, image_shown, image_foreign, share_told, by_line, by_file, no_line}
 use Rattle.ht_calc.proofs.Fetching.{nothing_asked}
 
 -- a line that is refused changes nothing
@@ -25,28 +25,27 @@ refused_keeps old _ _ _ blank is = refl
 refused_keeps old _ _ _ (group_is_set n r shape none is_n is_r) is = absurd is
 refused_keeps old _ _ _ (group_refused n r why) is = refl
 refused_keeps old _ _ _ (before_group line needs none) is = refl
+refused_keeps old _ _ _ (unbound line name some first) is = refl
+refused_keeps old _ _ _ (no_room line some are_bound full) is = refl
+refused_keeps old _ _ _ (over_budget line name shape some meets are_bound room first) is = refl
 refused_keeps old _ _ _ (reduced rows canonical shape some pair canonical_for) is = refl
 refused_keeps old _ _ _ (reduce_refused rows shape why some says) is = refl
 refused_keeps old _ _ _ (let_bound name rows canonical shape some room pair canonical_for) is = absurd is
-refused_keeps old _ _ _ (let_no_room name rows some full) is = refl
 refused_keeps old _ _ _ (let_refused name rows shape why some room says) is = refl
 refused_keeps old _ _ _ (product_bound name factors terms product canonical shape some stand room small is_product canonical_for) is = absurd is
-refused_keeps old _ _ _ (product_unbound name missing factors some first) is = refl
-refused_keeps old _ _ _ (product_no_room name factors some are_bound full) is = refl
 refused_keeps old _ _ _ (product_wide name factors some are_bound room wide) is = refl
 refused_keeps old _ _ _ (product_large name factors terms rows letters shape some stand room large) is = refl
-refused_keeps old _ _ _ (load_no_room name file some full) is = refl
-refused_keeps old _ _ _ (shown name rows some found) is = refl
-refused_keeps old _ _ _ (show_unbound name some none) is = refl
+refused_keeps old _ _ _ (questioned question name p shape answer some found tells) is = refl
+refused_keeps old _ _ _ (parts_bound periodic infinite whole p first second shape some found room parts) is = absurd is
+refused_keeps old _ _ _ (parts_large periodic infinite whole p rows letters shape some found room large) is = refl
+refused_keeps old _ _ _ (conjugator_bound name first second p q rows shape asked decided element) is = absurd is
+refused_keeps old _ _ _ (conjugator_not_kept name first second p q rows letters shape asked decided large) is = absurd is
+refused_keeps old _ _ _ (not_conjugate name first second p q shape asked decided) is = absurd is
+refused_keeps old _ _ _ (undecided name first second p q shape asked infinite) is = refl
 refused_keeps old _ _ _ (compared first second p q shape alike some first_is second_is told) is = absurd is
-refused_keeps old _ _ _ (first_unbound first second some none) is = refl
-refused_keeps old _ _ _ (second_unbound first second p some first_is none) is = refl
 refused_keeps old _ _ _ (image_shown name word p L shape some found of_shape image) is = absurd is
-refused_keeps old _ _ _ (image_unbound name word some none) is = refl
 refused_keeps old _ _ _ (image_foreign name word p shape some found foreign) is = refl
-refused_keeps old _ _ _ (basis_shown name p X shape some found quasinormal within) is = absurd is
-refused_keeps old _ _ _ (basis_unbound name some none) is = refl
-refused_keeps old _ _ _ (basis_over name p X shape some found quasinormal over) is = refl
+refused_keeps old _ _ _ (share_told name first second p shape answer some found tells) is = refl
 
 -- nor does a file
 refused_load_keeps : (old : State) (name : List ℕ) (gives : Option (List ℕ)) (answer : Answer) (new : State) → Loads old name gives answer new → IsRefusal answer → new ≡ old

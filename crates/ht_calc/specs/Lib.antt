@@ -5,7 +5,13 @@ pub use Rattle.ht_answer.specs.Answers
 pub mod Names
 pub mod Products
 pub mod Terms
+pub mod LineNames
+pub mod Budgets
+pub mod Questions
+pub mod ShareAnswers
+pub mod PartAnswers
 pub mod States
+pub mod Conjugations
 pub mod Fetches
 pub mod Loads
 pub mod Steps

@@ -6,8 +6,11 @@
 --     AreOfShape shape entries  the elements of the entries are so
 --     bound names name          what the first entry of this name has
 --     bind names name what      what a name is bound to, in the place of the name where it is bound, else behind all others
+--     AreBound names asked      each of the names asked for is bound
+--     IsFirstUnbound names asked name   of the names asked for this is the first that isn't bound
 --     HasRoom names name        the name is bound, or fewer than 256 names are
-use Rattle.std.specs.Prelude.{◌≡◌, ◌≢◌, ◌⊎◌, ◌<◌, ℕ, List, [], ◌∷◌, length, map, All, Option, Some, None, if◌then◌else◌, nat_eq}
+--     HasRoomFor names new      there is room for each of the new names, one after another
+use Rattle.std.specs.Prelude.{◌≡◌, ◌≢◌, ◌⊎◌, ◌<◌, ℕ, List, [], ◌∷◌, ◌++◌, length, map, All, Option, Some, None, if◌then◌else◌, nat_eq, ⊤}
 use Rattle.std.specs.Cmp.Lexicographic.{pointwise}
 use Rattle.std.specs.Map.{lookup}
 use Rattle.ht_word.specs.declared.shape.Shape.{Shape}
@@ -32,5 +35,19 @@ abbrev pub bind : {T : Type 0} → List (List ℕ × T) → List ℕ → T → L
 bind [] name what = (name, what) ∷ []
 bind (entry ∷ names) name what = if pointwise nat_eq name entry.0 then (entry.0, what) ∷ names else entry ∷ bind names name what
 
+abbrev pub AreBound : {T : Type 0} → List (List ℕ × T) → List (List ℕ) → Type 0
+AreBound names asked = All (λ name. bound names name ≢ None) asked
+
+pub record IsFirstUnbound {T : Type 0} (names : List (List ℕ × T)) (asked : List (List ℕ)) (name : List ℕ) : Type 0 where
+  pub before : List (List ℕ)
+  pub behind : List (List ℕ)
+  pub are : asked ≡ before ++ name ∷ behind
+  pub bound_before : AreBound names before
+  pub unbound : bound names name ≡ None
+
 abbrev pub HasRoom : {T : Type 0} → List (List ℕ × T) → List ℕ → Type 0
 HasRoom names name = (bound names name ≢ None) ⊎ (length names < 256)
+
+abbrev pub HasRoomFor : List (List ℕ × List Row) → List (List ℕ) → Type 0
+HasRoomFor names [] = ⊤
+HasRoomFor names (name ∷ new) = HasRoom names name × HasRoomFor (bind names name []) new

@@ -3,9 +3,7 @@
 --
 --     Term                                     the rows of an element, and an exponent
 --     StandFor names factors terms             the factors' names are bound to the terms' rows, and their exponents are the terms'
---     IsBound names factor                     the factor's name is bound
---     AreBound names factors                   each factor's name is bound
---     IsFirstUnbound names factors name        this is the first factor's name that isn't bound
+--     names_of factors                         the factors' names
 --     HasWide factors                          some exponent is wide
 --     StepsThrough terms u w                   the steps of the terms, as many as their exponents say, lead one after another from u to w
 --     IsProductOf shape terms s                s is a pair that moves words as the powers of the terms do, one after another
@@ -13,7 +11,7 @@
 --                                              power, and so on, some is large, and the first such has these numbers
 --     IsLargeProduct shape terms rows letters  of the elements that the product makes from left to right some is large, and the first
 --                                              such has these numbers
-use Rattle.std.specs.Prelude.{◌≡◌, ◌≢◌, ◌⊎◌, ℕ, ℤ, List, [], ◌∷◌, ◌++◌, All, Any, None, Some, ⊤}
+use Rattle.std.specs.Prelude.{◌≡◌, ◌⊎◌, ℕ, ℤ, List, [], ◌∷◌, map, Any, Some, ⊤}
 use Rattle.ht_word.specs.declared.word.Word.{Word}
 use Rattle.ht_word.specs.declared.shape.Shape.{Shape}
 use Rattle.ht_word.specs.Words.{IsWordOf}
@@ -38,20 +36,8 @@ StandFor names [] (term ∷ terms) = ⊥
 StandFor names (factor ∷ factors) [] = ⊥
 StandFor names (factor ∷ factors) (term ∷ terms) = (bound names factor.name ≡ Some (term.rows)) × (factor.exponent ≡ Fits (term.exponent)) × StandFor names factors terms
 
-abbrev pub IsBound : {T : Type 0} → List (List ℕ × T) → Factor → Type 0
-IsBound names factor = bound names factor.name ≢ None
-
-abbrev pub AreBound : {T : Type 0} → List (List ℕ × T) → List Factor → Type 0
-AreBound names factors = All (λ factor. IsBound names factor) factors
-
-pub record IsFirstUnbound {T : Type 0} (names : List (List ℕ × T)) (factors : List Factor) (name : List ℕ) : Type 0 where
-  pub before : List Factor
-  pub factor : Factor
-  pub behind : List Factor
-  pub are : factors ≡ before ++ factor ∷ behind
-  pub bound_before : AreBound names before
-  pub unbound : bound names factor.name ≡ None
-  pub name_is : name ≡ factor.name
+abbrev pub names_of : List Factor → List (List ℕ)
+names_of factors = map (λ factor. factor.name) factors
 
 abbrev pub HasWide : List Factor → Type 0
 HasWide factors = Any (λ (factor : Factor). factor.exponent ≡ Wide) factors

@@ -1,6 +1,6 @@
 //! What is bound to names.
-ghost use Rattle.std.specs.Prelude.{◌≡◌, ◌≢◌, ◌↔◌, [], Some, None, length, IsTrue, IsOk, OnOk, OnErr, MatchOption};
-ghost use Rattle.ht_calc.specs.Names.{bound, bind, HasRoom};
+ghost use Rattle.std.specs.Prelude.{◌≡◌, ◌≢◌, ◌↔◌, ◌<◌, [], ◌∷◌, Some, None, length, IsTrue, IsOk, OnOk, OnErr, MatchOption};
+ghost use Rattle.ht_calc.specs.Names.{rows_by_name, bound, bind, HasRoom, HasRoomFor};
 
 use ht_pair::Element;
 use ht_word::{Name, NoMemory};
@@ -58,6 +58,31 @@ impl Bindings {
         self.get(name).is_some() || self.len() < MAX_NAMES
     }
 
+    // Whether there is room for two names, the first one first.
+    pub(crate) fn has_room_for_both(&self, first: &Name, second: &Name) -> bool
+        ensures { IsTrue result ↔ HasRoomFor (rows_by_name self.now) (first.now ∷ second.now ∷ []) }
+    {
+        self.has_room(first) && (self.is_bound_behind(first, second) || self.is_room_left(first))
+    }
+
+    // Whether the second name is bound once the first one is.
+    fn is_bound_behind(&self, first: &Name, second: &Name) -> bool
+        ensures { IsTrue result ↔ (bound (bind (rows_by_name self.now) first.now []) second.now ≢ None) }
+    {
+        first == second || self.get(second).is_some()
+    }
+
+    // Whether there are fewer names than may be bound once the name is bound.
+    fn is_room_left(&self, name: &Name) -> bool
+        ensures { IsTrue result ↔ length (bind (rows_by_name self.now) name.now []) < 256 }
+    {
+        if self.get(name).is_some() {
+            self.len() < MAX_NAMES
+        } else {
+            self.len() < MAX_NAMES - 1
+        }
+    }
+
     // Binds a name. One that is bound keeps its place, and takes no memory. After the refusal the
     // bindings are unchanged.
     pub(crate) fn bind(&mut self, name: Name, element: Element) -> Result<(), NoMemory>
@@ -70,6 +95,49 @@ impl Bindings {
             return Ok(());
         }
         self.elements.insert(name, element)?;
+        Ok(())
+    }
+
+    // Binds two names, the first one first. After the refusal the bindings are unchanged.
+    pub(crate) fn bind_both(
+        &mut self,
+        first: Name,
+        one: Element,
+        second: Name,
+        other: Element,
+    ) -> Result<(), NoMemory>
+        ensures ok { OnOk result (self.new ≡ bind (bind self.old first one) second other) }
+        ensures err { OnErr result (self.new ≡ self.old) }
+    {
+        if first == second {
+            return self.bind(second, other);
+        }
+        if self.get(&first).is_some() {
+            // takes no memory where the name is bound, so it comes last
+            self.bind(second, other)?;
+            return self.bind(first, one);
+        }
+        self.bind_new(first, one, second, other)
+    }
+
+    // The same where the first name isn't bound: it is taken off again where the second finds no memory.
+    fn bind_new(
+        &mut self,
+        first: Name,
+        one: Element,
+        second: Name,
+        other: Element,
+    ) -> Result<(), NoMemory>
+        requires { bound self.old first ≡ None }
+        ensures ok { OnOk result (self.new ≡ bind (bind self.old first one) second other) }
+        ensures err { OnErr result (self.new ≡ self.old) }
+    {
+        let count = self.len();
+        self.bind(first, one)?;
+        let Ok(()) = self.bind(second, other) else {
+            self.elements.truncate(count);
+            return Err(NoMemory);
+        };
         Ok(())
     }
 }

@@ -14,17 +14,25 @@
 //! - `product`: products of powers of bound elements
 //! - `words`: the words of the command line
 //! - `question`: what an element is asked
+//! - `typed`: questions that take the kinds of words
+//! - `part`: the two parts of an element
+//! - `share`: whether two words share an orbit
+//! - `conjugator`: whether two elements are conjugate, and what conjugates them
 #![tactic(auto)]
 
 mod answering;
 mod bindings;
+mod conjugator;
 mod lines;
 mod load;
+mod part;
 mod product;
 mod question;
 mod script;
 mod session;
+mod share;
 mod status;
+mod typed;
 mod words;
 
 pub use script::run;

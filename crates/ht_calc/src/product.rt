@@ -4,7 +4,8 @@ ghost use Rattle.ht_word.specs.declared.shape.Shape.{Shape};
 ghost use Rattle.ht_pair.specs.PowerSizes.{IsLargePower};
 ghost use Rattle.ht_pair.specs.declared.fault.OpFault.TheVariants as op_fault;
 ghost use Rattle.ht_script.specs.declared.factor.Exponent.TheVariants as exponent;
-ghost use Rattle.ht_calc.specs.Products.{Term, AreBound, IsFirstUnbound, HasWide, IsProductOf, IsLargeProduct};
+ghost use Rattle.ht_calc.specs.Names.{AreBound, IsFirstUnbound};
+ghost use Rattle.ht_calc.specs.Products.{Term, names_of, HasWide, IsProductOf, IsLargeProduct};
 ghost use Rattle.ht_calc.specs.Terms.{IsTermOf, AreTermsOf, HasTerm, IsRaised, IsRaisedBehind, IsLargeNext};
 
 use crate::bindings::Bindings;
@@ -16,7 +17,7 @@ use std::alloc::Global;
 
 // The name of the first factor whose name isn't bound. One look-up for each factor.
 pub(crate) fn first_unbound<'a>(names: &Bindings, factors: &'a [Factor]) -> Option<&'a Name>
-    ensures { MatchOption result (AreBound names.now factors.now) (λ name. IsFirstUnbound names.now factors.now name.now) }
+    ensures { MatchOption result (AreBound names.now (names_of factors.now)) (λ name. IsFirstUnbound names.now (names_of factors.now) name.now) }
 {
     for factor in factors {
         if names.get(&factor.name).is_none() {

@@ -1,20 +1,31 @@
 //! What an element is asked.
-ghost use Rattle.std.specs.Prelude.{◌≡◌, ◌≤◌, List, pos, IfOk, IsErrOf};
-ghost use Rattle.ht_word.specs.declared.word.Word.{Word};
+ghost use Rattle.std.specs.Prelude.{◌≡◌, ◌≤◌, ℕ, List, pos, IfOk, IsErrOf};
 ghost use Rattle.ht_word.specs.Words.{IsWordOf};
-ghost use Rattle.ht_pair.specs.Bases.{TakesAtMost};
 ghost use Rattle.ht_pair.specs.Images.{Entry, IsImage};
-ghost use Rattle.ht_pair.specs.SemiNormal.{IsQuasinormal};
 ghost use Rattle.ht_text.specs.Texts.{HasRowsText};
-ghost use Rattle.ht_answer.specs.declared.answer.Answer.TheVariants as answer;
 ghost use Rattle.ht_answer.specs.Answers.{HasAnswerText};
+ghost use Rattle.ht_calc.specs.Budgets.{IsOverBudget};
+ghost use Rattle.ht_calc.specs.Questions.{TakesBasis, Tells};
 ghost use Rattle.ht_calc.specs.Steps.{rows_from};
 
+use crate::typed::{told_order, told_ponds, told_profile, told_types};
+use ht_answer::Answer;
 use ht_ops::Image;
 use ht_pair::{Element, Rows};
 use ht_quasi::{QuasiFault, quasinormal};
 use ht_word::{NoMemory, Word, Words};
 use std::alloc::Global;
+
+// What an element may be asked on a line that reads one name.
+#[derive(Clone, Copy, Debug, PartialEq, Eq)]
+pub(crate) enum Question {
+    Show,
+    Basis,
+    Order,
+    Types,
+    Profile,
+    Ponds,
+}
 
 // Where the element sends the words under the word: a row for each of its parts. One step, which
 // takes O(log N) comparisons of words for N rows, and a pass over those made.
@@ -28,24 +39,53 @@ pub(crate) fn image_rows(alloc: Global, element: &Element, word: Word) -> Result
     image.rows_under(alloc, &word)
 }
 
-// The words of the element's quasinormal basis, in order; `Budget` exactly where the basis takes
-// more expansions. Takes as long as finding the basis.
-pub(crate) fn basis_words(
+// The answer of the element to the question. `Budget` comes exactly where the question takes the
+// quasinormal basis, and that takes more expansions. Takes as long as copying the rows, or finding
+// the basis and the kinds of its words.
+pub(crate) fn answer_of(
     alloc: Global,
+    question: Question,
     element: &Element,
     budget: u32,
-) -> Result<Words, QuasiFault>
+) -> Result<Answer, QuasiFault>
     requires { budget ≤ 65536 }
-    ensures basis { IfOk result (λ words. IsQuasinormal element.now.shape element.now.rows words × TakesAtMost element.now.shape words budget) }
-    ensures text { IfOk result (λ words. HasAnswerText (answer.Basis words)) }
-    ensures over { IsErrOf result QuasiFault.Budget → (X : List Word) × IsQuasinormal element.now.shape element.now.rows X × ¬ TakesAtMost element.now.shape X budget }
+    ensures answer { IfOk result (Tells element.now.shape budget element.now.rows question) }
+    ensures text { IfOk result HasAnswerText }
+    ensures over { IsErrOf result QuasiFault.Budget → TakesBasis question × IsOverBudget element.now.shape budget element.now.rows }
+{
+    match question {
+        Question::Show => Ok(shown_rows(alloc, element)?),
+        Question::Basis => basis_words(alloc, element, budget),
+        Question::Order => told_order(alloc, element, budget),
+        Question::Types => told_types(alloc, element, budget),
+        Question::Profile => told_profile(alloc, element, budget),
+        Question::Ponds => told_ponds(alloc, element, budget),
+    }
+}
+
+// The canonical pair of the element.
+fn shown_rows(alloc: Global, element: &Element) -> Result<Answer, NoMemory>
+    ensures answer { (budget : ℕ) → IfOk result (Tells element.now.shape budget element.now.rows Question.Show) }
+    ensures text { IfOk result HasAnswerText }
+{
+    Ok(Answer::Pair(element.rows(alloc)?))
+}
+
+// The words of the element's quasinormal basis, in order; `Budget` exactly where the basis takes
+// more expansions. Takes as long as finding the basis.
+fn basis_words(alloc: Global, element: &Element, budget: u32) -> Result<Answer, QuasiFault>
+    requires { budget ≤ 65536 }
+    ensures answer { IfOk result (Tells element.now.shape budget element.now.rows Question.Basis) }
+    ensures text { IfOk result HasAnswerText }
+    ensures over { IsErrOf result QuasiFault.Budget → IsOverBudget element.now.shape budget element.now.rows }
 {
     let quasi = quasinormal(alloc, element, budget)?;
     let words = copy_words(alloc, quasi.basis.words().as_slice())?;
-    Ok(words)
+    Ok(Answer::Basis(words))
 }
 
-fn copy_words(alloc: Global, words: &[Word]) -> Result<Words, NoMemory>
+// Equal words.
+pub(crate) fn copy_words(alloc: Global, words: &[Word]) -> Result<Words, NoMemory>
     ensures { IfOk result (λ copy. copy ≡ words.now) }
 {
     let mut copy = Words::new(alloc);

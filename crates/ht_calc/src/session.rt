@@ -12,12 +12,13 @@ ghost use Rattle.ht_answer.specs.Answers.{IsRefusal, HasAnswerText};
 ghost use Rattle.ht_calc.specs.Fetches.{Fetched, AreFetches};
 ghost use Rattle.ht_calc.specs.ShortLines.{HasShortRows, NamesFile};
 ghost use Rattle.ht_calc.specs.Names.{bind};
+ghost use Rattle.ht_calc.specs.Questions.{asks};
 ghost use Rattle.ht_calc.specs.States.{start};
 ghost use Rattle.ht_calc.specs.Steps.{IsRowsRefusal, Does, Step};
 
 use crate::bindings::Bindings;
 use crate::product::{first_unbound, has_wide, product_of};
-use crate::question::{basis_words, image_rows};
+use crate::question::{Question, answer_of, image_rows};
 use ht_answer::{Answer, Refusal};
 use ht_out::Library;
 use ht_pair::{Element, OpFault, Rows, RowsFault};
@@ -33,7 +34,7 @@ use std::marker::Model;
 pub struct Session {
     pub(crate) shape: Option<Shape>,
     // from 1 to 65,536
-    budget: u32,
+    pub(crate) budget: u32,
     // elements of the shape; none without one
     pub(crate) names: Bindings,
 }
@@ -67,9 +68,13 @@ impl Session {
     /// `show` as long as the copying of its rows. `equal` makes one pass over the rows. A `let` with
     /// factors makes one power for each factor, and one product for each factor but the first. An
     /// `image` takes one step of the word's cone (`Image::step`), and `basis` as long as finding the
-    /// quasinormal basis (`quasinormal`). A `load` makes one fetch, once the group is set and there is
-    /// room for the name, and no other line makes any: it takes memory for the bytes of the file, at
-    /// most 4,194,305, and a few passes over them, and as long as the sorting of the file's rows.
+    /// quasinormal basis (`quasinormal`); `types`, `order` and `profile` take that and a few passes
+    /// over its words and their letters, and `parts` the sorting of the rows of both parts besides;
+    /// `conj` takes it for both elements, and the sorting of the conjugator's rows. `ponds` and
+    /// `share` take it and the steps of words that they follow (`ht_share::ponds`,
+    /// `ht_share::Sharer`). A `load` makes one fetch, once the group is set and there is room for the
+    /// name, and no other line makes any: it takes memory for the bytes of the file, at most
+    /// 4,194,305, and a few passes over them, and as long as the sorting of the file's rows.
     pub fn answer<L: Library>(
         &mut self,
         alloc: Global,
@@ -115,11 +120,30 @@ impl Session {
             Line::Reduce(rows) => self.reduce(alloc, rows),
             Line::LetRows { name, rows } => self.bind_rows(alloc, name, rows),
             Line::LetProduct { name, factors } => self.bind_product(alloc, name, factors),
-            Line::Show(name) => self.show(alloc, name),
+            Line::Show(name) => self.ask(alloc, Question::Show, name),
             Line::Equal(first, second) => Ok(self.compare(first, second)),
             Line::Image { name, word } => self.image(alloc, name, word),
             Line::Load { name, file } => self.load(alloc, name, &file, files),
-            Line::Basis(name) => self.basis(alloc, name),
+            Line::Basis(name) => self.ask(alloc, Question::Basis, name),
+            Line::Order(name) => self.ask(alloc, Question::Order, name),
+            Line::Types(name) => self.ask(alloc, Question::Types, name),
+            Line::Profile(name) => self.ask(alloc, Question::Profile, name),
+            Line::Parts {
+                periodic,
+                infinite,
+                whole,
+            } => self.parts(alloc, periodic, infinite, whole),
+            Line::Conj {
+                bound,
+                first,
+                second,
+            } => self.conjugate(alloc, bound, first, second),
+            Line::Ponds(name) => self.ask(alloc, Question::Ponds, name),
+            Line::Share {
+                name,
+                first,
+                second,
+            } => self.share(alloc, name, first, second),
         }
     }
 
@@ -236,8 +260,9 @@ impl Session {
         Ok(())
     }
 
-    fn show(&self, alloc: Global, name: Name) -> Result<Answer, NoMemory>
-        ensures step { IfOk result (λ answer. Does self.now (line.Show name) answer self.now) }
+    // Asks the element that the name is bound to.
+    fn ask(&self, alloc: Global, question: Question, name: Name) -> Result<Answer, NoMemory>
+        ensures step { IfOk result (λ answer. Does self.now (asks question name) answer self.now) }
         ensures text { IfOk result HasAnswerText }
     {
         if self.shape.is_none() {
@@ -246,7 +271,11 @@ impl Session {
         let Some(element) = self.names.get(&name) else {
             return Ok(Answer::Refused(Refusal::Name(name)));
         };
-        Ok(Answer::Pair(element.rows(alloc)?))
+        match answer_of(alloc, question, element, self.budget) {
+            Ok(answer) => Ok(answer),
+            Err(QuasiFault::Budget) => Ok(Answer::Refused(Refusal::Budget(name))),
+            Err(QuasiFault::NoMemory) => Err(NoMemory),
+        }
     }
 
     fn compare(&self, first: Name, second: Name) -> Answer
@@ -279,23 +308,6 @@ impl Session {
             return Ok(Answer::Refused(Refusal::Word(1)));
         }
         Ok(Answer::Pair(image_rows(alloc, element, word)?))
-    }
-
-    fn basis(&self, alloc: Global, name: Name) -> Result<Answer, NoMemory>
-        ensures step { IfOk result (λ answer. Does self.now (line.Basis name) answer self.now) }
-        ensures text { IfOk result HasAnswerText }
-    {
-        if self.shape.is_none() {
-            return Ok(Answer::Refused(Refusal::Group));
-        }
-        let Some(element) = self.names.get(&name) else {
-            return Ok(Answer::Refused(Refusal::Name(name)));
-        };
-        match basis_words(alloc, element, self.budget) {
-            Ok(words) => Ok(Answer::Basis(words)),
-            Err(QuasiFault::Budget) => Ok(Answer::Refused(Refusal::Budget(name))),
-            Err(QuasiFault::NoMemory) => Err(NoMemory),
-        }
     }
 }
 

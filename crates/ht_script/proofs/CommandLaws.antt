@@ -23,14 +23,17 @@ use Rattle.ht_script.proofs.EndingLaws.{root_text, root_is, ending_before, some_
 
 -- every command
 abbrev pub commands : List Command
-commands = command.Group ∷ command.Reduce ∷ command.Let ∷ command.Show ∷ command.Equal ∷ command.Image ∷ command.Load ∷ command.Basis ∷ []
+commands =
+    command.Group ∷ command.Reduce ∷ command.Let ∷ command.Show ∷ command.Equal ∷ command.Image ∷ command.Load ∷
+    command.Basis ∷ command.Order ∷ command.Types ∷ command.Profile ∷ command.Parts ∷ command.Conj ∷
+    command.Ponds ∷ command.Share ∷ []
 
 -- the word of the command at a place
 abbrev pub word_at : ℕ → List ℕ
 word_at k = keyword (get_or commands k command.Group)
 
 -- where a command stands among all
-place_of : (c : Command) → (k : ℕ) × (k < 8) × (keyword c ≡ word_at k)
+place_of : (c : Command) → (k : ℕ) × (k < 15) × (keyword c ≡ word_at k)
 place_of command.Group = (0, omega arith, refl)
 place_of command.Reduce = (1, omega arith, refl)
 place_of command.Let = (2, omega arith, refl)
@@ -39,13 +42,20 @@ place_of command.Equal = (4, omega arith, refl)
 place_of command.Image = (5, omega arith, refl)
 place_of command.Load = (6, omega arith, refl)
 place_of command.Basis = (7, omega arith, refl)
+place_of command.Order = (8, omega arith, refl)
+place_of command.Types = (9, omega arith, refl)
+place_of command.Profile = (10, omega arith, refl)
+place_of command.Parts = (11, omega arith, refl)
+place_of command.Conj = (12, omega arith, refl)
+place_of command.Ponds = (13, omega arith, refl)
+place_of command.Share = (14, omega arith, refl)
 
 -- a test that two texts differ
 pub differs : (token word : List ℕ) (same : Bool) → same ≡ pointwise eqb token word → same ≡ false → token ≢ word
 differs token word same test is e = true≢false (sym ((bytes_decides token word).1 e) ∙ sym test ∙ is)
 
 -- a token that is the word of no command
-pub no_keyword : (token : List ℕ) (n : ℕ) → 8 ≤ n → ((k : ℕ) → k < n → token ≢ word_at k) → ¬ IsKeyword token
+pub no_keyword : (token : List ℕ) (n : ℕ) → 15 ≤ n → ((k : ℕ) → k < n → token ≢ word_at k) → ¬ IsKeyword token
 no_keyword token n all none h = let at = place_of h.0 in none at.0 (omega (arith, at.1)) (h.1 ∙ at.2)
 
 -- the longest front that the words of the first n commands have
@@ -83,7 +93,7 @@ longest_of_new token n most next h g more = longest_of_next token n most next ne
 pub longest_of_old : (token : List ℕ) (n most next : ℕ) → IsLongestOf token n most → IsLongestFront (Is (word_at n)) token next → next ≤ most → IsLongestOf token (n + 1) most
 longest_of_old token n most next h g less = longest_of_next token n most next most h g (omega arith) less (inl refl)
 
-pub longest_of_all : (token : List ℕ) (n most : ℕ) → 8 ≤ n → IsLongestOf token n most → IsLongestFront IsKeyword token most
+pub longest_of_all : (token : List ℕ) (n most : ℕ) → 15 ≤ n → IsLongestOf token n most → IsLongestFront IsKeyword token most
 longest_of_all token n most all h = record {
   within = h.within;
   front = h.front;
@@ -146,44 +156,29 @@ abbrev find_command : List Command → List ℕ → Option Command
 find_command [] token = None
 find_command (c ∷ more) token = cond (pointwise eqb token (keyword c)) (Some c) (find_command more token)
 
+-- it finds each command by its own word: a last clause with `_` or c stands for all commands but the first
 finds : (c : Command) → find_command commands (keyword c) ≡ Some c
 finds command.Group = refl
-finds command.Reduce = refl
-finds command.Let = refl
-finds command.Show = refl
-finds command.Equal = refl
-finds command.Image = refl
-finds command.Load = refl
-finds command.Basis = refl
+finds _ = refl
 
 -- each command has a word of its own
 pub same_command : (c d : Command) → keyword c ≡ keyword d → c ≡ d
 same_command c d e = let same : Some c ≡ Some d = sym (finds c) ∙ ap (λ t. find_command commands t) e ∙ finds d in cc
 
-head_of : (b c : ℕ) (x y : List ℕ) → b ∷ x ≡ c ∷ y → b ≡ c
-head_of b c x y e = cc
+-- the first byte of a word
+first_byte : (word x y : List ℕ) (b : ℕ) → 0 < length word → word ++ x ≡ b ∷ y → get_or word 0 0 ≡ b
+first_byte [] x y b some e = absurd (omega arith)
+first_byte (c ∷ word) x y b some e = cc
 
 -- no comment begins with the word of a command
 pub no_mark : (c : Command) (x y : List ℕ) → keyword c ++ x ≢ 35 ∷ y
-no_mark command.Group x y e = let same = head_of 103 35 (codes "roup" ++ x) y e in omega arith
-no_mark command.Reduce x y e = let same = head_of 114 35 (codes "educe" ++ x) y e in omega arith
-no_mark command.Let x y e = let same = head_of 108 35 (codes "et" ++ x) y e in omega arith
-no_mark command.Show x y e = let same = head_of 115 35 (codes "how" ++ x) y e in omega arith
-no_mark command.Equal x y e = let same = head_of 101 35 (codes "qual" ++ x) y e in omega arith
-no_mark command.Image x y e = let same = head_of 105 35 (codes "mage" ++ x) y e in omega arith
-no_mark command.Load x y e = let same = head_of 108 35 (codes "oad" ++ x) y e in omega arith
-no_mark command.Basis x y e = let same = head_of 98 35 (codes "asis" ++ x) y e in omega arith
+no_mark command.Group x y e = let same = first_byte (keyword command.Group) x y 35 (omega arith) e in omega arith
+no_mark c x y e = let same = first_byte (keyword c) x y 35 (omega arith) e in omega arith
 
 -- the word of a command is a token
 pub keyword_token : (c : Command) → IsToken (keyword c)
 keyword_token command.Group = record { some = omega arith; no_space = All-from_recursion (λ b. b ≢ 32) (keyword command.Group) (search rules) }
-keyword_token command.Reduce = record { some = omega arith; no_space = All-from_recursion (λ b. b ≢ 32) (keyword command.Reduce) (search rules) }
-keyword_token command.Let = record { some = omega arith; no_space = All-from_recursion (λ b. b ≢ 32) (keyword command.Let) (search rules) }
-keyword_token command.Show = record { some = omega arith; no_space = All-from_recursion (λ b. b ≢ 32) (keyword command.Show) (search rules) }
-keyword_token command.Equal = record { some = omega arith; no_space = All-from_recursion (λ b. b ≢ 32) (keyword command.Equal) (search rules) }
-keyword_token command.Image = record { some = omega arith; no_space = All-from_recursion (λ b. b ≢ 32) (keyword command.Image) (search rules) }
-keyword_token command.Load = record { some = omega arith; no_space = All-from_recursion (λ b. b ≢ 32) (keyword command.Load) (search rules) }
-keyword_token command.Basis = record { some = omega arith; no_space = All-from_recursion (λ b. b ≢ 32) (keyword command.Basis) (search rules) }
+keyword_token c = record { some = omega arith; no_space = All-from_recursion (λ b. b ≢ 32) (keyword c) (search rules) }
 
 -- without slots there is the ending
 pub longest_no_slots : (e : Ending) (slots : List Slot) (bytes : List ℕ) (k : ℕ) → length slots ≡ 0 → IsLongestFront (IsEnding e) bytes k → IsLongestFront (IsBehind e slots) bytes k

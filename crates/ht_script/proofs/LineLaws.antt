@@ -1,5 +1,5 @@
 -- Lines by the word that they begin with.
-use Rattle.std.proofs.Common.{◌≡◌, ◌≢◌, ◌<◌, ◌≤◌, ◌+◌, ◌-◌, ℕ, ◌⊎◌, inl, inr, List, [], ◌∷◌, ◌++◌, length, take, drop, All, Option, Some, None, MatchOption, Result, Ok, Err, IfOk, Bor, refl, sym, ap, ◌∙◌, subst, arith, append_assoc, append-nil, length-append, take-append-drop}
+use Rattle.std.proofs.Common.{◌≡◌, ◌≢◌, ◌<◌, ◌≤◌, ◌+◌, ◌-◌, ℕ, ◌⊎◌, inl, inr, List, [], ◌∷◌, ◌++◌, length, map, take, drop, All, Option, Some, None, MatchOption, Result, Ok, Err, IfOk, Bor, refl, sym, ap, ◌∙◌, subst, subst₂, arith, append_assoc, append-nil, length-append, take-append-drop}
 use Rattle.std.specs.Prelude.{codes}
 use Rattle.std.specs.List.{AllByRecursion}
 use Rattle.std.proofs.lemmas.Bool.{cases_lt}
@@ -10,12 +10,13 @@ use Rattle.ht_pair.specs.declared.row.Row.{Row}
 use Rattle.ht_text.specs.Fronts.{IsFront, IsLongestFront, IsWordText, IsRowsText}
 use Rattle.ht_script.specs.declared.command.Command.{Command}
 use Rattle.ht_script.specs.declared.command.Command.TheVariants as command
+use Rattle.ht_script.specs.declared.command.Slot.TheVariants.{Name}
 use Rattle.ht_script.specs.declared.line.Line.{Line}
-use Rattle.ht_script.specs.declared.line.Line.TheVariants.{Blank, Group, Reduce, LetRows, LetProduct, Show, Equal, Image, Load, Basis}
+use Rattle.ht_script.specs.declared.line.Line.TheVariants.{Blank, Group, Reduce, LetRows, LetProduct, Show, Equal, Image, Load, Basis, Order, Types, Profile, Parts, Conj, Ponds, Share}
 use Rattle.ht_script.specs.declared.ending.Ending.TheVariants as ending
 use Rattle.ht_script.specs.Tokens.{◌▸◌, Is, IsSpaces, IsToken, IsSpaced, IsSpan, IsFirstToken}
 use Rattle.ht_script.specs.Lines.{IsMarked, IsComment, IsNumber, AreRows, IsNamed, IsWritten, IsFileNamed, IsLine, IsNoLine, IsLineText}
-use Rattle.ht_script.specs.Slots.{keyword, slots_of, ending_of, IsEnding, IsTaken, Completes, Reads, IsKeyword, IsUnmarked}
+use Rattle.ht_script.specs.Slots.{keyword, slots_of, ending_of, IsEnding, IsBehind, IsTaken, Completes, HasOneName, Reads, IsKeyword, IsUnmarked}
 use Rattle.ht_script.specs.Names.{IsName, IsFile}
 use Rattle.ht_script.specs.Factors.{AreFactors}
 use Rattle.ht_script.proofs.TokenLaws.{spaces_left, AreTokens, BeginsToken, begins, strip, not_spaces, refit, first_fits, both}
@@ -55,15 +56,13 @@ group_behind rest b =
 pub rows_behind : (rest : List ℕ) → (IsRowsText ▸ IsSpaces) rest → (rows : List Row) × (AreRows rows ▸ IsSpaces) rest
 rows_behind rest b = let rows = b.fits.0 in (rows.0, refit _ (λ t u. AreRows rows.0 t × IsSpaces u) rest b (rows.1, b.fits.1))
 
-pub show_behind : (rest : List ℕ) → IsTaken command.Show rest → (name : List ℕ) × (IsNamed name ▸ IsSpaces) rest
-show_behind rest b = (b.token, refit _ (λ t u. IsNamed b.token t × IsSpaces u) rest b ((b.fits.0, refl), b.fits.1))
-
 -- a name and behind it what R holds of
 pub first_named : (R : List ℕ → Type 0) (bytes : List ℕ) → (IsName ▸ R) bytes → (name : List ℕ) × (rest : List ℕ) × (IsNamed name ▸ Is rest) bytes × R rest
 first_named R bytes b = (b.token, b.rest, refit _ (λ t u. IsNamed b.token t × Is b.rest u) bytes b ((b.fits.0, refl), refl), b.fits.1)
 
-pub with_first : (R : List ℕ → Type 0) (name rest bytes : List ℕ) → (IsNamed name ▸ Is rest) bytes → R rest → (IsNamed name ▸ R) bytes
-with_first R name rest bytes b h = refit _ (λ t u. IsNamed name t × R u) bytes b (b.fits.0, subst R (sym b.fits.1) h)
+-- a name that is known is some name
+pub some_named : (name : List ℕ) (R : List ℕ → Type 0) (bytes : List ℕ) → (IsNamed name ▸ R) bytes → (IsName ▸ R) bytes
+some_named name R bytes b = refit _ (λ t u. IsName t × R u) bytes b (b.fits.0.0, b.fits.1)
 
 -- and R holds of it however it was found
 pub behind_first_name : (R : List ℕ → Type 0) (name rest bytes : List ℕ) → (IsNamed name ▸ Is rest) bytes → (IsName ▸ R) bytes → R rest
@@ -74,26 +73,32 @@ behind_first_name R name rest bytes g h =
 pub word_behind : (rest : List ℕ) → (IsWordText ▸ IsSpaces) rest → (word : Word) × (IsWritten word ▸ IsSpaces) rest
 word_behind rest b = let word = b.fits.0 in (word.0, refit _ (λ t u. IsWritten word.0 t × IsSpaces u) rest b (word.1, b.fits.1))
 
-equal_behind : (rest : List ℕ) → IsTaken command.Equal rest → (first : List ℕ) × (second : List ℕ) × (IsNamed first ▸ IsNamed second ▸ IsSpaces) rest
-equal_behind rest b =
-    let v = first_named (IsTaken command.Show) rest b in
-    let last = show_behind v.1 v.3 in
-    (v.0, last.0, with_first (IsNamed last.0 ▸ IsSpaces) v.0 v.1 rest v.2 last.1)
+pub two_words_behind : (rest : List ℕ) → (IsWordText ▸ IsWordText ▸ IsSpaces) rest → (first : Word) × (second : Word) × (IsWritten first ▸ IsWritten second ▸ IsSpaces) rest
+two_words_behind rest b =
+    let first = b.fits.0 in
+    let last = word_behind b.rest b.fits.1 in
+    (first.0, last.0, refit _ (λ t u. IsWritten first.0 t × (IsWritten last.0 ▸ IsSpaces) u) rest b (first.1, last.1))
 
 pub file_behind : (rest : List ℕ) → (IsFile ▸ IsSpaces) rest → (file : List ℕ) × (IsFileNamed file ▸ IsSpaces) rest
 file_behind rest b = (b.token, refit _ (λ t u. IsFileNamed b.token t × IsSpaces u) rest b ((b.fits.0, refl), b.fits.1))
 
-load_behind : (rest : List ℕ) → IsTaken command.Load rest → (name : List ℕ) × (file : List ℕ) × (IsNamed name ▸ IsFileNamed file ▸ IsSpaces) rest
-load_behind rest b =
-    let v = first_named (IsFile ▸ IsSpaces) rest b in
-    let last = file_behind v.1 v.3 in
-    (v.0, last.0, with_first (IsFileNamed last.0 ▸ IsSpaces) v.0 v.1 rest v.2 last.1)
+-- a name, and behind it a value that can be read from what R holds of
+named_with : {X : Type 0} (R : List ℕ → Type 0) (V : X → List ℕ → Type 0) → ((rest : List ℕ) → R rest → (x : X) × V x rest) → (bytes : List ℕ) → (IsName ▸ R) bytes
+    → (name : List ℕ) × (x : X) × (IsNamed name ▸ V x) bytes
+named_with R V read bytes b = let v = read b.rest b.fits.1 in (b.token, v.0, refit _ (λ t u. IsNamed b.token t × V v.0 u) bytes b ((b.fits.0, refl), v.1))
 
-image_behind : (rest : List ℕ) → IsTaken command.Image rest → (name : List ℕ) × (word : Word) × (IsNamed name ▸ IsWritten word ▸ IsSpaces) rest
-image_behind rest b =
-    let v = first_named (IsWordText ▸ IsSpaces) rest b in
-    let last = word_behind v.1 v.3 in
-    (v.0, last.0, with_first (IsWritten last.0 ▸ IsSpaces) v.0 v.1 rest v.2 last.1)
+pub name_behind : (rest : List ℕ) → (IsName ▸ IsSpaces) rest → (name : List ℕ) × (IsNamed name ▸ IsSpaces) rest
+name_behind rest b = (b.token, refit _ (λ t u. IsNamed b.token t × IsSpaces u) rest b ((b.fits.0, refl), b.fits.1))
+
+pub one_name_behind : (c : Command) (rest : List ℕ) → HasOneName c → IsTaken c rest → (name : List ℕ) × (IsNamed name ▸ IsSpaces) rest
+one_name_behind c rest one b = name_behind rest (subst₂ (λ e slots. IsBehind e slots rest) one.1 one.0 b)
+
+pub two_names_behind : (rest : List ℕ) → (IsName ▸ IsName ▸ IsSpaces) rest → (first : List ℕ) × (second : List ℕ) × (IsNamed first ▸ IsNamed second ▸ IsSpaces) rest
+two_names_behind rest b = named_with (IsName ▸ IsSpaces) (λ name. IsNamed name ▸ IsSpaces) name_behind rest b
+
+pub three_names_behind : (rest : List ℕ) → (IsName ▸ IsName ▸ IsName ▸ IsSpaces) rest → (first : List ℕ) × (others : List ℕ × List ℕ) × (IsNamed first ▸ IsNamed others.0 ▸ IsNamed others.1 ▸ IsSpaces) rest
+three_names_behind rest b =
+    named_with (IsName ▸ IsName ▸ IsSpaces) (λ (names : List ℕ × List ℕ). IsNamed names.0 ▸ IsNamed names.1 ▸ IsSpaces) (λ r h. let v = two_names_behind r h in ((v.0, v.1), v.2)) rest b
 
 -- a name, `=` and behind it what R holds of
 pub named_behind : (R : List ℕ → Type 0) (bytes : List ℕ) → (IsName ▸ Is (codes "=") ▸ R) bytes → (name : List ℕ) × (rest : List ℕ) × (IsNamed name ▸ Is (codes "=") ▸ Is rest) bytes × R rest
@@ -129,23 +134,38 @@ pub taken_line : (c : Command) (rest : List ℕ) → IsTaken c rest → (line : 
 taken_line command.Group rest b = let v = group_behind rest b in (Group v.0 v.1, v.2)
 taken_line command.Reduce rest b = let v = rows_behind rest b in (Reduce v.0, v.1)
 taken_line command.Let rest b = let_behind rest b
-taken_line command.Show rest b = let v = show_behind rest b in (Show v.0, v.1)
-taken_line command.Equal rest b = let v = equal_behind rest b in (Equal v.0 v.1, v.2)
-taken_line command.Image rest b = let v = image_behind rest b in (Image v.0 v.1, v.2)
-taken_line command.Load rest b = let v = load_behind rest b in (Load v.0 v.1, v.2)
-taken_line command.Basis rest b = let v = show_behind rest b in (Basis v.0, v.1)
+taken_line command.Show rest b = let v = name_behind rest b in (Show v.0, v.1)
+taken_line command.Equal rest b = let v = two_names_behind rest b in (Equal v.0 v.1, v.2)
+taken_line command.Image rest b = let v = named_with (IsWordText ▸ IsSpaces) (λ word. IsWritten word ▸ IsSpaces) word_behind rest b in (Image v.0 v.1, v.2)
+taken_line command.Load rest b = let v = named_with (IsFile ▸ IsSpaces) (λ file. IsFileNamed file ▸ IsSpaces) file_behind rest b in (Load v.0 v.1, v.2)
+taken_line command.Basis rest b = let v = name_behind rest b in (Basis v.0, v.1)
+taken_line command.Order rest b = let v = name_behind rest b in (Order v.0, v.1)
+taken_line command.Types rest b = let v = name_behind rest b in (Types v.0, v.1)
+taken_line command.Profile rest b = let v = name_behind rest b in (Profile v.0, v.1)
+taken_line command.Parts rest b = let v = three_names_behind rest b in (Parts v.0 v.1.0 v.1.1, v.2)
+taken_line command.Conj rest b = let v = three_names_behind rest b in (Conj v.0 v.1.0 v.1.1, v.2)
+taken_line command.Ponds rest b = let v = name_behind rest b in (Ponds v.0, v.1)
+taken_line command.Share rest b =
+    let v = named_with (IsWordText ▸ IsWordText ▸ IsSpaces) (λ (words : Word × Word). IsWritten words.0 ▸ IsWritten words.1 ▸ IsSpaces) (λ r h. let w = two_words_behind r h in ((w.0, w.1), w.2)) rest b in (Share v.0 v.1.0 v.1.1, v.2)
 
 -- bytes of the command's word, and of what makes a line behind it, are the text of the line
 pub completed : (F : List ℕ → List ℕ → Type 0) (bytes : List ℕ) (s : IsSpaced F bytes) (c : Command) (line : Line) → s.token ≡ keyword c → Completes c line s.rest → IsLine bytes line
-completed F bytes s command.Group (Group n r) word h = refit F (λ t u. Is (codes "group") t × (IsNumber n ▸ IsNumber r ▸ IsSpaces) u) bytes s (word, h)
-completed F bytes s command.Reduce (Reduce rows) word h = refit F (λ t u. Is (codes "reduce") t × (AreRows rows ▸ IsSpaces) u) bytes s (word, h)
-completed F bytes s command.Let (LetRows name rows) word h = refit F (λ t u. Is (codes "let") t × (IsNamed name ▸ Is (codes "=") ▸ AreRows rows ▸ IsSpaces) u) bytes s (word, h)
-completed F bytes s command.Let (LetProduct name factors) word h = refit F (λ t u. Is (codes "let") t × (IsNamed name ▸ Is (codes "=") ▸ AreFactors factors) u) bytes s (word, h)
-completed F bytes s command.Show (Show name) word h = refit F (λ t u. Is (codes "show") t × (IsNamed name ▸ IsSpaces) u) bytes s (word, h)
-completed F bytes s command.Equal (Equal first second) word h = refit F (λ t u. Is (codes "equal") t × (IsNamed first ▸ IsNamed second ▸ IsSpaces) u) bytes s (word, h)
-completed F bytes s command.Image (Image name w) word h = refit F (λ t u. Is (codes "image") t × (IsNamed name ▸ IsWritten w ▸ IsSpaces) u) bytes s (word, h)
-completed F bytes s command.Load (Load name file) word h = refit F (λ t u. Is (codes "load") t × (IsNamed name ▸ IsFileNamed file ▸ IsSpaces) u) bytes s (word, h)
-completed F bytes s command.Basis (Basis name) word h = refit F (λ t u. Is (codes "basis") t × (IsNamed name ▸ IsSpaces) u) bytes s (word, h)
+completed F bytes s command.Group (Group n r) word h = refit F _ bytes s (word, h)
+completed F bytes s command.Reduce (Reduce rows) word h = refit F _ bytes s (word, h)
+completed F bytes s command.Let (LetRows name rows) word h = refit F _ bytes s (word, h)
+completed F bytes s command.Let (LetProduct name factors) word h = refit F _ bytes s (word, h)
+completed F bytes s command.Show (Show name) word h = refit F _ bytes s (word, h)
+completed F bytes s command.Equal (Equal first second) word h = refit F _ bytes s (word, h)
+completed F bytes s command.Image (Image name w) word h = refit F _ bytes s (word, h)
+completed F bytes s command.Load (Load name file) word h = refit F _ bytes s (word, h)
+completed F bytes s command.Basis (Basis name) word h = refit F _ bytes s (word, h)
+completed F bytes s command.Order (Order name) word h = refit F _ bytes s (word, h)
+completed F bytes s command.Types (Types name) word h = refit F _ bytes s (word, h)
+completed F bytes s command.Profile (Profile name) word h = refit F _ bytes s (word, h)
+completed F bytes s command.Parts (Parts periodic infinite whole) word h = refit F _ bytes s (word, h)
+completed F bytes s command.Conj (Conj bound first second) word h = refit F _ bytes s (word, h)
+completed F bytes s command.Ponds (Ponds name) word h = refit F _ bytes s (word, h)
+completed F bytes s command.Share (Share name first second) word h = refit F _ bytes s (word, h)
 completed F bytes s _ _ word h = absurd h
 
 -- the line of a command
@@ -167,6 +187,23 @@ command_for (Equal first second) = Some command.Equal
 command_for (Image name word) = Some command.Image
 command_for (Load name file) = Some command.Load
 command_for (Basis name) = Some command.Basis
+command_for (Order name) = Some command.Order
+command_for (Types name) = Some command.Types
+command_for (Profile name) = Some command.Profile
+command_for (Parts periodic infinite whole) = Some command.Parts
+command_for (Conj bound first second) = Some command.Conj
+command_for (Ponds name) = Some command.Ponds
+command_for (Share name first second) = Some command.Share
+
+-- a token for each name, with spaces before it, and spaces alone behind the last
+abbrev pub AreNamed : List (List ℕ) → List ℕ → Type 0
+AreNamed [] = IsSpaces
+AreNamed (name ∷ names) = IsNamed name ▸ AreNamed names
+
+-- they are the text of as many names
+names_text : (names : List (List ℕ)) (bytes : List ℕ) → AreNamed names bytes → IsBehind ending.Spaces (map (λ name. Name) names) bytes
+names_text [] bytes h = h
+names_text (name ∷ names) bytes h = refit _ _ bytes h (h.fits.0.0, names_text names h.rest h.fits.1)
 
 -- bytes of a line, by its command
 abbrev pub Told : List ℕ → Option Command → Type 0
@@ -187,17 +224,25 @@ told (LetProduct name factors) bytes h =
     let named = h.fits.1 in
     let equals = named.fits.1 in
     refit _ _ bytes h (h.fits.0, refit _ _ h.rest named (named.fits.0.0, refit _ _ named.rest equals (equals.fits.0, inr (factors, equals.fits.1))))
-told (Show name) bytes h = refit _ _ bytes h (h.fits.0, refit _ _ h.rest h.fits.1 (h.fits.1.fits.0.0, h.fits.1.fits.1))
-told (Equal first second) bytes h =
-    let last = h.fits.1.fits.1 in
-    refit _ _ bytes h (h.fits.0, refit _ _ h.rest h.fits.1 (h.fits.1.fits.0.0, refit _ _ h.fits.1.rest last (last.fits.0.0, last.fits.1)))
+told (Show name) bytes h = refit _ _ bytes h (h.fits.0, names_text (name ∷ []) h.rest h.fits.1)
+told (Equal first second) bytes h = refit _ _ bytes h (h.fits.0, names_text (first ∷ second ∷ []) h.rest h.fits.1)
 told (Image name word) bytes h =
     let last = h.fits.1.fits.1 in
     refit _ _ bytes h (h.fits.0, refit _ _ h.rest h.fits.1 (h.fits.1.fits.0.0, refit _ _ h.fits.1.rest last ((word, last.fits.0), last.fits.1)))
 told (Load name file) bytes h =
     let last = h.fits.1.fits.1 in
     refit _ _ bytes h (h.fits.0, refit _ _ h.rest h.fits.1 (h.fits.1.fits.0.0, refit _ _ h.fits.1.rest last (last.fits.0.0, last.fits.1)))
-told (Basis name) bytes h = refit _ _ bytes h (h.fits.0, refit _ _ h.rest h.fits.1 (h.fits.1.fits.0.0, h.fits.1.fits.1))
+told (Basis name) bytes h = refit _ _ bytes h (h.fits.0, names_text (name ∷ []) h.rest h.fits.1)
+told (Order name) bytes h = refit _ _ bytes h (h.fits.0, names_text (name ∷ []) h.rest h.fits.1)
+told (Types name) bytes h = refit _ _ bytes h (h.fits.0, names_text (name ∷ []) h.rest h.fits.1)
+told (Profile name) bytes h = refit _ _ bytes h (h.fits.0, names_text (name ∷ []) h.rest h.fits.1)
+told (Parts periodic infinite whole) bytes h = refit _ _ bytes h (h.fits.0, names_text (periodic ∷ infinite ∷ whole ∷ []) h.rest h.fits.1)
+told (Conj bound first second) bytes h = refit _ _ bytes h (h.fits.0, names_text (bound ∷ first ∷ second ∷ []) h.rest h.fits.1)
+told (Ponds name) bytes h = refit _ _ bytes h (h.fits.0, names_text (name ∷ []) h.rest h.fits.1)
+told (Share name first second) bytes h =
+    let words = h.fits.1.fits.1 in
+    let last = words.fits.1 in
+    refit _ _ bytes h (h.fits.0, refit _ _ h.rest h.fits.1 (h.fits.1.fits.0.0, refit _ _ h.fits.1.rest words ((first, words.fits.0), refit _ _ words.rest last ((second, last.fits.0), last.fits.1))))
 
 pub command_text : (bytes : List ℕ) (c : Command) → (Is (keyword c) ▸ IsTaken c) bytes → IsCommandText bytes
 command_text bytes c h = refit (λ t u. Is (keyword c) t × IsTaken c u) CommandFits bytes h (record { of = c; word = h.fits.0; behind = h.fits.1 })

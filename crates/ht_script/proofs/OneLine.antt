@@ -1,6 +1,7 @@
 -- Bytes are the text of one line at most.
-use Rattle.std.proofs.Common.{◌≡◌, ◌⊎◌, ℕ, inl, inr, List, [], ◌∷◌, Option, Some, None, refl, sym, ap, ◌∙◌, subst}
+use Rattle.std.proofs.Common.{◌≡◌, ◌⊎◌, ℕ, inl, inr, List, [], ◌∷◌, length, Option, Some, None, refl, sym, ap, ◌∙◌, subst, arith}
 use Rattle.std.specs.Prelude.{codes}
+use Rattle.ht_word.specs.declared.word.Word.{Word}
 use Rattle.ht_pair.specs.declared.row.Row.{Row}
 use Rattle.ht_text.proofs.Numbers.{same_num}
 use Rattle.ht_text.proofs.WordTexts.{same_word}
@@ -8,7 +9,7 @@ use Rattle.ht_text.proofs.RowTexts.{same_rows}
 use Rattle.ht_script.specs.declared.command.Command.{Command}
 use Rattle.ht_script.specs.declared.command.Command.TheVariants as command
 use Rattle.ht_script.specs.declared.line.Line.{Line}
-use Rattle.ht_script.specs.declared.line.Line.TheVariants.{Blank, Group, Reduce, LetRows, LetProduct, Show, Equal, Image, Load, Basis}
+use Rattle.ht_script.specs.declared.line.Line.TheVariants.{Blank, Group, Reduce, LetRows, LetProduct, Show, Equal, Image, Load, Basis, Order, Types, Profile, Parts, Conj, Ponds, Share}
 use Rattle.ht_script.specs.declared.factor.Factor.{Factor}
 use Rattle.ht_script.specs.Factors.{IsFactor, AreListed, AreFactors}
 use Rattle.ht_script.specs.Tokens.{◌▸◌, Is, IsSpaces, IsToken}
@@ -18,7 +19,7 @@ use Rattle.ht_script.proofs.TokenLaws.{AreBoth, both, no_token, none_of}
 use Rattle.ht_script.proofs.GrammarLaws.{number_token, name_token, equals_token, rows_token, rows_first, word_token, file_token}
 use Rattle.ht_script.proofs.FactorTexts.{factor_token, factor_first, same_listed}
 use Rattle.ht_script.proofs.CommandLaws.{keyword_token, same_command}
-use Rattle.ht_script.proofs.LineLaws.{CommandFits, IsCommandText, Told, told, command_for, command_tokens, command_text, unmarked_command}
+use Rattle.ht_script.proofs.LineLaws.{CommandFits, IsCommandText, AreNamed, Told, told, command_for, command_tokens, command_text, unmarked_command}
 
 keyword_is_token : (c : Command) (t : List ℕ) → Is (keyword c) t → IsToken t
 keyword_is_token c t e = subst IsToken (sym e) (keyword_token c)
@@ -49,6 +50,11 @@ one_name : (m n : List ℕ) (R S : List ℕ → Type 0) (bytes : List ℕ) → (
 one_name m n R S bytes g h =
     let names = both (IsNamed m) R (IsNamed n) S bytes (λ t k. name_token t k.0) (λ t k. name_token t k.0) g h in
     (sym names.first.1 ∙ names.second.1, names)
+
+one_word : (u v : Word) (R S : List ℕ → Type 0) (bytes : List ℕ) → (IsWritten u ▸ R) bytes → (IsWritten v ▸ S) bytes → (u ≡ v) × AreBoth (IsWritten u) R (IsWritten v) S
+one_word u v R S bytes g h =
+    let words = both (IsWritten u) R (IsWritten v) S bytes (λ t k. word_token t u k) (λ t k. word_token t v k) g h in
+    (same_word words.token u v words.first words.second, words)
 
 one_rows : (p q : List Row) (bytes : List ℕ) → (AreRows p ▸ IsSpaces) bytes → (AreRows q ▸ IsSpaces) bytes → p ≡ q
 one_rows p q bytes g h =
@@ -81,6 +87,21 @@ one_let a b R S bytes g h =
     let equals = both (Is (codes "=")) R (Is (codes "=")) S names.1.rest equals_token equals_token names.1.behind_first names.1.behind_second in
     record { name = names.0; rest = equals.rest; first = equals.behind_first; second = equals.behind_second }
 
+-- bytes are one list of so many names
+same_names : (p q : List (List ℕ)) (bytes : List ℕ) → length p ≡ length q → AreNamed p bytes → AreNamed q bytes → p ≡ q
+same_names [] [] bytes e g h = refl
+same_names [] (b ∷ q) bytes e g h = absurd (omega arith)
+same_names (a ∷ p) [] bytes e g h = absurd (omega arith)
+same_names (a ∷ p) (b ∷ q) bytes e g h =
+    let names = one_name a b (AreNamed p) (AreNamed q) bytes g h in
+    let first_is = names.0 in
+    let others_are = same_names p q names.1.rest (omega arith) names.1.behind_first names.1.behind_second in
+    cc
+
+-- the names behind the word of a command
+one_list : (c : Command) (p q : List (List ℕ)) (bytes : List ℕ) → length p ≡ length q → (Is (keyword c) ▸ AreNamed p) bytes → (Is (keyword c) ▸ AreNamed q) bytes → p ≡ q
+one_list c p q bytes e g h = let rest = behind_both c (AreNamed p) (AreNamed q) bytes g h in same_names p q rest.rest e rest.behind_first rest.behind_second
+
 same_line : (bytes : List ℕ) (l m : Line) → command_for l ≡ command_for m → IsLine bytes l → IsLine bytes m → l ≡ m
 same_line bytes Blank Blank e g h = refl
 same_line bytes (Group n r) (Group n' r') e g h =
@@ -107,21 +128,14 @@ same_line bytes (LetProduct a p) (LetProduct b q) e g h =
     let name_is = values.name in
     let factors_are = same_listed p q values.rest values.first.1 values.second.1 in
     cc
-same_line bytes (Show a) (Show b) e g h =
-    let rest = behind_both command.Show (IsNamed a ▸ IsSpaces) (IsNamed b ▸ IsSpaces) bytes g h in
-    ap Show (one_name a b IsSpaces IsSpaces rest.rest rest.behind_first rest.behind_second).0
-same_line bytes (Equal a b) (Equal a' b') e g h =
-    let rest = behind_both command.Equal (IsNamed a ▸ IsNamed b ▸ IsSpaces) (IsNamed a' ▸ IsNamed b' ▸ IsSpaces) bytes g h in
-    let firsts = one_name a a' (IsNamed b ▸ IsSpaces) (IsNamed b' ▸ IsSpaces) rest.rest rest.behind_first rest.behind_second in
-    let first_is = firsts.0 in
-    let second_is = (one_name b b' IsSpaces IsSpaces firsts.1.rest firsts.1.behind_first firsts.1.behind_second).0 in
-    cc
+same_line bytes (Show a) (Show b) e g h = let same = one_list command.Show (a ∷ []) (b ∷ []) bytes refl g h in cc
+same_line bytes (Equal a b) (Equal a' b') e g h = let same = one_list command.Equal (a ∷ b ∷ []) (a' ∷ b' ∷ []) bytes refl g h in cc
 same_line bytes (Image a u) (Image b v) e g h =
     let rest = behind_both command.Image (IsNamed a ▸ IsWritten u ▸ IsSpaces) (IsNamed b ▸ IsWritten v ▸ IsSpaces) bytes g h in
     let names = one_name a b (IsWritten u ▸ IsSpaces) (IsWritten v ▸ IsSpaces) rest.rest rest.behind_first rest.behind_second in
-    let words = both (IsWritten u) IsSpaces (IsWritten v) IsSpaces names.1.rest (λ t k. word_token t u k) (λ t k. word_token t v k) names.1.behind_first names.1.behind_second in
+    let word = one_word u v IsSpaces IsSpaces names.1.rest names.1.behind_first names.1.behind_second in
     let name_is = names.0 in
-    let word_is = same_word words.token u v words.first words.second in
+    let word_is = word.0 in
     cc
 same_line bytes (Load a u) (Load b v) e g h =
     let rest = behind_both command.Load (IsNamed a ▸ IsFileNamed u ▸ IsSpaces) (IsNamed b ▸ IsFileNamed v ▸ IsSpaces) bytes g h in
@@ -130,9 +144,22 @@ same_line bytes (Load a u) (Load b v) e g h =
     let name_is = names.0 in
     let file_is = sym files.first.1 ∙ files.second.1 in
     cc
-same_line bytes (Basis a) (Basis b) e g h =
-    let rest = behind_both command.Basis (IsNamed a ▸ IsSpaces) (IsNamed b ▸ IsSpaces) bytes g h in
-    ap Basis (one_name a b IsSpaces IsSpaces rest.rest rest.behind_first rest.behind_second).0
+same_line bytes (Basis a) (Basis b) e g h = let same = one_list command.Basis (a ∷ []) (b ∷ []) bytes refl g h in cc
+same_line bytes (Order a) (Order b) e g h = let same = one_list command.Order (a ∷ []) (b ∷ []) bytes refl g h in cc
+same_line bytes (Types a) (Types b) e g h = let same = one_list command.Types (a ∷ []) (b ∷ []) bytes refl g h in cc
+same_line bytes (Profile a) (Profile b) e g h = let same = one_list command.Profile (a ∷ []) (b ∷ []) bytes refl g h in cc
+same_line bytes (Parts a b d) (Parts a' b' d') e g h = let same = one_list command.Parts (a ∷ b ∷ d ∷ []) (a' ∷ b' ∷ d' ∷ []) bytes refl g h in cc
+same_line bytes (Conj a b d) (Conj a' b' d') e g h = let same = one_list command.Conj (a ∷ b ∷ d ∷ []) (a' ∷ b' ∷ d' ∷ []) bytes refl g h in cc
+same_line bytes (Ponds a) (Ponds b) e g h = let same = one_list command.Ponds (a ∷ []) (b ∷ []) bytes refl g h in cc
+same_line bytes (Share a u v) (Share b u' v') e g h =
+    let rest = behind_both command.Share (IsNamed a ▸ IsWritten u ▸ IsWritten v ▸ IsSpaces) (IsNamed b ▸ IsWritten u' ▸ IsWritten v' ▸ IsSpaces) bytes g h in
+    let names = one_name a b (IsWritten u ▸ IsWritten v ▸ IsSpaces) (IsWritten u' ▸ IsWritten v' ▸ IsSpaces) rest.rest rest.behind_first rest.behind_second in
+    let first = one_word u u' (IsWritten v ▸ IsSpaces) (IsWritten v' ▸ IsSpaces) names.1.rest names.1.behind_first names.1.behind_second in
+    let second = one_word v v' IsSpaces IsSpaces first.1.rest first.1.behind_first first.1.behind_second in
+    let name_is = names.0 in
+    let first_is = first.0 in
+    let second_is = second.0 in
+    cc
 same_line bytes _ _ e g h = absurd cc
 
 pub one_line : (bytes : List ℕ) (l m : Line) → IsLine bytes l → IsLine bytes m → l ≡ m

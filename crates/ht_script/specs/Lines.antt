@@ -15,7 +15,7 @@ use Rattle.ht_word.specs.declared.word.Word.{Word}
 use Rattle.ht_pair.specs.declared.row.Row.{Row}
 use Rattle.ht_text.specs.Texts.{IsNum, IsWord, IsRows}
 use Rattle.ht_script.specs.declared.line.Line.{Line}
-use Rattle.ht_script.specs.declared.line.Line.TheVariants.{Blank, Group, Reduce, LetRows, LetProduct, Show, Equal, Image, Load, Basis}
+use Rattle.ht_script.specs.declared.line.Line.TheVariants.{Blank, Group, Reduce, LetRows, LetProduct, Show, Equal, Image, Load, Basis, Order, Types, Profile, Parts, Conj, Ponds, Share}
 use Rattle.ht_script.specs.Tokens.{IsSpaces, Is, ◌▸◌}
 use Rattle.ht_script.specs.Names.{IsName, IsFile}
 use Rattle.ht_script.specs.Factors.{AreFactors}
@@ -56,6 +56,13 @@ IsLine bytes (Equal first second) = (Is (codes "equal") ▸ IsNamed first ▸ Is
 IsLine bytes (Image name word) = (Is (codes "image") ▸ IsNamed name ▸ IsWritten word ▸ IsSpaces) bytes
 IsLine bytes (Load name file) = (Is (codes "load") ▸ IsNamed name ▸ IsFileNamed file ▸ IsSpaces) bytes
 IsLine bytes (Basis name) = (Is (codes "basis") ▸ IsNamed name ▸ IsSpaces) bytes
+IsLine bytes (Order name) = (Is (codes "order") ▸ IsNamed name ▸ IsSpaces) bytes
+IsLine bytes (Types name) = (Is (codes "types") ▸ IsNamed name ▸ IsSpaces) bytes
+IsLine bytes (Profile name) = (Is (codes "profile") ▸ IsNamed name ▸ IsSpaces) bytes
+IsLine bytes (Parts periodic infinite whole) = (Is (codes "parts") ▸ IsNamed periodic ▸ IsNamed infinite ▸ IsNamed whole ▸ IsSpaces) bytes
+IsLine bytes (Conj bound first second) = (Is (codes "conj") ▸ IsNamed bound ▸ IsNamed first ▸ IsNamed second ▸ IsSpaces) bytes
+IsLine bytes (Ponds name) = (Is (codes "ponds") ▸ IsNamed name ▸ IsSpaces) bytes
+IsLine bytes (Share name first second) = (Is (codes "share") ▸ IsNamed name ▸ IsWritten first ▸ IsWritten second ▸ IsSpaces) bytes
 
 abbrev pub IsNoLine : List ℕ → Type 0
 IsNoLine bytes = (line : Line) → ¬ IsLine bytes line

@@ -8,6 +8,7 @@
 --     IsBehind ending slots bytes   a token for each slot, with spaces before each, and behind the last what the ending says
 --     IsTaken command bytes         the bytes may stand behind the command's word
 --     Completes command line bytes  the command's word and the bytes behind it make the line
+--     HasOneName command            one name is all that stands behind the command's word
 --     Reads command bytes found     the line found is the one that they make; none, where they make none
 --     IsKeyword token               the token is the word of some command
 --     IsUnmarked bytes              the first byte that isn't a space isn't `#`
@@ -20,7 +21,7 @@ use Rattle.ht_script.specs.declared.command.Slot.TheVariants.{Number, Name, Equa
 use Rattle.ht_script.specs.declared.ending.Ending.{Ending}
 use Rattle.ht_script.specs.declared.ending.Ending.TheVariants as ending
 use Rattle.ht_script.specs.declared.line.Line.{Line}
-use Rattle.ht_script.specs.declared.line.Line.TheVariants.{Group, Reduce, LetRows, LetProduct, Show, Equal, Image, Load, Basis}
+use Rattle.ht_script.specs.declared.line.Line.TheVariants.{Group, Reduce, LetRows, LetProduct, Show, Equal, Image, Load, Basis, Order, Types, Profile, Parts, Conj, Ponds, Share}
 use Rattle.ht_script.specs.Tokens.{IsSpaces, Is, ◌▸◌}
 use Rattle.ht_script.specs.Names.{IsName, IsFile}
 use Rattle.ht_script.specs.Factors.{AreFactors, AreFactorsText}
@@ -35,6 +36,13 @@ keyword command.Equal = codes "equal"
 keyword command.Image = codes "image"
 keyword command.Load = codes "load"
 keyword command.Basis = codes "basis"
+keyword command.Order = codes "order"
+keyword command.Types = codes "types"
+keyword command.Profile = codes "profile"
+keyword command.Parts = codes "parts"
+keyword command.Conj = codes "conj"
+keyword command.Ponds = codes "ponds"
+keyword command.Share = codes "share"
 
 abbrev pub slots_of : Command → List Slot
 slots_of command.Group = Number ∷ Number ∷ []
@@ -45,6 +53,13 @@ slots_of command.Equal = Name ∷ Name ∷ []
 slots_of command.Image = Name ∷ Word ∷ []
 slots_of command.Load = Name ∷ File ∷ []
 slots_of command.Basis = Name ∷ []
+slots_of command.Order = Name ∷ []
+slots_of command.Types = Name ∷ []
+slots_of command.Profile = Name ∷ []
+slots_of command.Parts = Name ∷ Name ∷ Name ∷ []
+slots_of command.Conj = Name ∷ Name ∷ Name ∷ []
+slots_of command.Ponds = Name ∷ []
+slots_of command.Share = Name ∷ Word ∷ Word ∷ []
 
 abbrev pub ending_of : Command → Ending
 ending_of command.Group = ending.Spaces
@@ -55,6 +70,13 @@ ending_of command.Equal = ending.Spaces
 ending_of command.Image = ending.Spaces
 ending_of command.Load = ending.Spaces
 ending_of command.Basis = ending.Spaces
+ending_of command.Order = ending.Spaces
+ending_of command.Types = ending.Spaces
+ending_of command.Profile = ending.Spaces
+ending_of command.Parts = ending.Spaces
+ending_of command.Conj = ending.Spaces
+ending_of command.Ponds = ending.Spaces
+ending_of command.Share = ending.Spaces
 
 abbrev pub IsSlot : Slot → List ℕ → Type 0
 IsSlot Number token = IsNumText token
@@ -85,7 +107,17 @@ Completes command.Equal (Equal first second) bytes = (IsNamed first ▸ IsNamed 
 Completes command.Image (Image name word) bytes = (IsNamed name ▸ IsWritten word ▸ IsSpaces) bytes
 Completes command.Load (Load name file) bytes = (IsNamed name ▸ IsFileNamed file ▸ IsSpaces) bytes
 Completes command.Basis (Basis name) bytes = (IsNamed name ▸ IsSpaces) bytes
+Completes command.Order (Order name) bytes = (IsNamed name ▸ IsSpaces) bytes
+Completes command.Types (Types name) bytes = (IsNamed name ▸ IsSpaces) bytes
+Completes command.Profile (Profile name) bytes = (IsNamed name ▸ IsSpaces) bytes
+Completes command.Parts (Parts periodic infinite whole) bytes = (IsNamed periodic ▸ IsNamed infinite ▸ IsNamed whole ▸ IsSpaces) bytes
+Completes command.Conj (Conj bound first second) bytes = (IsNamed bound ▸ IsNamed first ▸ IsNamed second ▸ IsSpaces) bytes
+Completes command.Ponds (Ponds name) bytes = (IsNamed name ▸ IsSpaces) bytes
+Completes command.Share (Share name first second) bytes = (IsNamed name ▸ IsWritten first ▸ IsWritten second ▸ IsSpaces) bytes
 Completes _ _ bytes = ⊥
+
+abbrev pub HasOneName : Command → Type 0
+HasOneName command = (slots_of command ≡ Name ∷ []) × (ending_of command ≡ ending.Spaces)
 
 abbrev pub Reads : Command → List ℕ → Option Line → Type 0
 Reads command bytes found = MatchOption found (¬ IsTaken command bytes) (λ line. Completes command line bytes)

@@ -20,6 +20,13 @@ pub(crate) enum Command {
     Image,
     Load,
     Basis,
+    Order,
+    Types,
+    Profile,
+    Parts,
+    Conj,
+    Ponds,
+    Share,
 }
 
 /// What a token behind the first word is.
@@ -33,7 +40,7 @@ pub(crate) enum Slot {
 }
 
 // Every command.
-const COMMANDS: [Command; 8] = [
+const COMMANDS: [Command; 15] = [
     Command::Group,
     Command::Reduce,
     Command::Let,
@@ -42,6 +49,13 @@ const COMMANDS: [Command; 8] = [
     Command::Image,
     Command::Load,
     Command::Basis,
+    Command::Order,
+    Command::Types,
+    Command::Profile,
+    Command::Parts,
+    Command::Conj,
+    Command::Ponds,
+    Command::Share,
 ];
 
 impl Command {
@@ -58,6 +72,13 @@ impl Command {
             Command::Image => b"image",
             Command::Load => b"load",
             Command::Basis => b"basis",
+            Command::Order => b"order",
+            Command::Types => b"types",
+            Command::Profile => b"profile",
+            Command::Parts => b"parts",
+            Command::Conj => b"conj",
+            Command::Ponds => b"ponds",
+            Command::Share => b"share",
         }
     }
 
@@ -69,11 +90,13 @@ impl Command {
             Command::Group => &[Slot::Number, Slot::Number],
             Command::Reduce => &[],
             Command::Let => &[Slot::Name, Slot::Equals],
-            Command::Show => &[Slot::Name],
             Command::Equal => &[Slot::Name, Slot::Name],
             Command::Image => &[Slot::Name, Slot::Word],
             Command::Load => &[Slot::Name, Slot::File],
-            Command::Basis => &[Slot::Name],
+            Command::Show | Command::Basis | Command::Order => &[Slot::Name],
+            Command::Types | Command::Profile | Command::Ponds => &[Slot::Name],
+            Command::Share => &[Slot::Name, Slot::Word, Slot::Word],
+            Command::Parts | Command::Conj => &[Slot::Name, Slot::Name, Slot::Name],
         }
     }
 
@@ -86,6 +109,9 @@ impl Command {
             Command::Let => Ending::Value,
             Command::Group | Command::Show | Command::Equal => Ending::Spaces,
             Command::Image | Command::Load | Command::Basis => Ending::Spaces,
+            Command::Order | Command::Types | Command::Profile => Ending::Spaces,
+            Command::Parts | Command::Conj => Ending::Spaces,
+            Command::Ponds | Command::Share => Ending::Spaces,
         }
     }
 

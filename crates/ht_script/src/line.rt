@@ -18,23 +18,64 @@ pub enum Line {
     /// Only spaces, or a comment.
     Blank,
     /// `group` and the two numbers n and r, each at most 9999.
-    Group { n: u32, r: u32 },
+    Group {
+        n: u32,
+        r: u32,
+    },
     /// `reduce` and its rows.
     Reduce(Rows),
     /// `let`, a name, `=` and rows.
-    LetRows { name: Name, rows: Rows },
+    LetRows {
+        name: Name,
+        rows: Rows,
+    },
     /// `let`, a name, `=` and factors, at least one, in their order.
-    LetProduct { name: Name, factors: Factors },
+    LetProduct {
+        name: Name,
+        factors: Factors,
+    },
     /// `show` and a name.
     Show(Name),
     /// `equal` and two names.
     Equal(Name, Name),
     /// `image`, a name and a word.
-    Image { name: Name, word: Word },
+    Image {
+        name: Name,
+        word: Word,
+    },
     /// `load`, a name and the name of a file.
-    Load { name: Name, file: Name },
+    Load {
+        name: Name,
+        file: Name,
+    },
     /// `basis` and a name.
     Basis(Name),
+    /// `order` and a name.
+    Order(Name),
+    /// `types` and a name.
+    Types(Name),
+    /// `profile` and a name.
+    Profile(Name),
+    /// `ponds` and a name.
+    Ponds(Name),
+    /// `share`, a name and two words.
+    Share {
+        name: Name,
+        first: Word,
+        second: Word,
+    },
+    /// `parts` and three names: those for the two parts, then the element's.
+    Parts {
+        periodic: Name,
+        infinite: Name,
+        whole: Name,
+    },
+    /// `conj` and three names: the conjugator's, then those of the two elements.
+    Conj {
+        bound: Name,
+        first: Name,
+        second: Name,
+    },
 }
 
 /// Why bytes give no line.

@@ -4,7 +4,7 @@ ghost use Rattle.ht_word.specs.declared.word.Word.{Word};
 ghost use Rattle.ht_pair.specs.declared.row.Row.{Row};
 ghost use Rattle.ht_script.specs.Tokens.{◌▸◌, Is, IsSpaces, IsToken};
 ghost use Rattle.ht_script.specs.Lines.{IsNumber, AreRows, IsNamed, IsWritten, IsFileNamed, IsLine, IsNoLine};
-ghost use Rattle.ht_script.specs.Slots.{IsUnmarked, Reads};
+ghost use Rattle.ht_script.specs.Slots.{HasOneName, IsUnmarked, Reads};
 
 use crate::Line;
 use crate::command::Command;
@@ -52,11 +52,14 @@ fn read_behind(alloc: Global, command: Command, bytes: &[u8]) -> Result<Option<L
         Command::Group => Ok(read_group(bytes)),
         Command::Reduce => read_reduce(alloc, bytes),
         Command::Let => read_let(alloc, bytes),
-        Command::Show => read_show(alloc, bytes),
         Command::Equal => read_equal(alloc, bytes),
         Command::Image => read_image(alloc, bytes),
         Command::Load => read_load(alloc, bytes),
-        Command::Basis => read_basis(alloc, bytes),
+        Command::Parts => read_parts(alloc, bytes),
+        Command::Conj => read_conj(alloc, bytes),
+        Command::Share => read_share(alloc, bytes),
+        Command::Show | Command::Basis | Command::Order => read_named(alloc, command, bytes),
+        Command::Types | Command::Profile | Command::Ponds => read_named(alloc, command, bytes),
     }
 }
 
@@ -96,24 +99,31 @@ fn read_let(alloc: Global, bytes: &[u8]) -> Result<Option<Line>, NoMemory>
     Ok(Some(Line::LetProduct { name, factors }))
 }
 
-// The line of `show` and the bytes behind it. Two passes over them.
-fn read_show(alloc: Global, bytes: &[u8]) -> Result<Option<Line>, NoMemory>
-    ensures { IfOk result (Reads Command.Show bytes.now) }
+// The line of a command with one name and the bytes behind its word. Two passes over them.
+fn read_named(alloc: Global, command: Command, bytes: &[u8]) -> Result<Option<Line>, NoMemory>
+    requires { HasOneName command }
+    ensures { IfOk result (Reads command bytes.now) }
 {
     let Some(name) = read_last_name(alloc, bytes)? else {
         return Ok(None);
     };
-    Ok(Some(Line::Show(name)))
+    Ok(match command {
+        Command::Show => Some(Line::Show(name)),
+        Command::Basis => Some(Line::Basis(name)),
+        Command::Order => Some(Line::Order(name)),
+        Command::Types => Some(Line::Types(name)),
+        Command::Profile => Some(Line::Profile(name)),
+        Command::Ponds => Some(Line::Ponds(name)),
+        Command::Group | Command::Reduce | Command::Let | Command::Equal => None,
+        Command::Image | Command::Load | Command::Parts | Command::Conj | Command::Share => None,
+    })
 }
 
 // The line of `equal` and the bytes behind it. Three passes over them.
 fn read_equal(alloc: Global, bytes: &[u8]) -> Result<Option<Line>, NoMemory>
     ensures { IfOk result (Reads Command.Equal bytes.now) }
 {
-    let Some((first, rest)) = read_first_name(alloc, bytes)? else {
-        return Ok(None);
-    };
-    let Some(second) = read_last_name(alloc, rest)? else {
+    let Some((first, second)) = read_two_names(alloc, bytes)? else {
         return Ok(None);
     };
     Ok(Some(Line::Equal(first, second)))
@@ -145,14 +155,49 @@ fn read_load(alloc: Global, bytes: &[u8]) -> Result<Option<Line>, NoMemory>
     Ok(Some(Line::Load { name, file }))
 }
 
-// The line of `basis` and the bytes behind it. Two passes over them.
-fn read_basis(alloc: Global, bytes: &[u8]) -> Result<Option<Line>, NoMemory>
-    ensures { IfOk result (Reads Command.Basis bytes.now) }
+// The line of `parts` and the bytes behind it. Three passes over them.
+fn read_parts(alloc: Global, bytes: &[u8]) -> Result<Option<Line>, NoMemory>
+    ensures { IfOk result (Reads Command.Parts bytes.now) }
 {
-    let Some(name) = read_last_name(alloc, bytes)? else {
+    let Some((periodic, infinite, whole)) = read_three_names(alloc, bytes)? else {
         return Ok(None);
     };
-    Ok(Some(Line::Basis(name)))
+    Ok(Some(Line::Parts {
+        periodic,
+        infinite,
+        whole,
+    }))
+}
+
+// The line of `conj` and the bytes behind it. Three passes over them.
+fn read_conj(alloc: Global, bytes: &[u8]) -> Result<Option<Line>, NoMemory>
+    ensures { IfOk result (Reads Command.Conj bytes.now) }
+{
+    let Some((bound, first, second)) = read_three_names(alloc, bytes)? else {
+        return Ok(None);
+    };
+    Ok(Some(Line::Conj {
+        bound,
+        first,
+        second,
+    }))
+}
+
+// The line of `share` and the bytes behind it. Four passes over them.
+fn read_share(alloc: Global, bytes: &[u8]) -> Result<Option<Line>, NoMemory>
+    ensures { IfOk result (Reads Command.Share bytes.now) }
+{
+    let Some((name, rest)) = read_first_name(alloc, bytes)? else {
+        return Ok(None);
+    };
+    let Some((from, to)) = read_two_words(alloc, rest)? else {
+        return Ok(None);
+    };
+    Ok(Some(Line::Share {
+        name,
+        first: from,
+        second: to,
+    }))
 }
 
 // The one token that the bytes have. One pass over them.
@@ -211,6 +256,36 @@ fn read_last_name(alloc: Global, bytes: &[u8]) -> Result<Option<Name>, NoMemory>
     read_name(alloc, token)
 }
 
+// The two names that are the bytes. Three passes over them.
+fn read_two_names(alloc: Global, bytes: &[u8]) -> Result<Option<(Name, Name)>, NoMemory>
+    ensures { IfOk result (λ found. MatchOption found
+        ((first second : List ℕ) → ¬ (IsNamed first ▸ IsNamed second ▸ IsSpaces) bytes.now)
+        (λ p. (IsNamed p.0 ▸ IsNamed p.1 ▸ IsSpaces) bytes.now)) }
+{
+    let Some((first, rest)) = read_first_name(alloc, bytes)? else {
+        return Ok(None);
+    };
+    let Some(second) = read_last_name(alloc, rest)? else {
+        return Ok(None);
+    };
+    Ok(Some((first, second)))
+}
+
+// The three names that are the bytes. Three passes over them.
+fn read_three_names(alloc: Global, bytes: &[u8]) -> Result<Option<(Name, Name, Name)>, NoMemory>
+    ensures { IfOk result (λ found. MatchOption found
+        ((first second third : List ℕ) → ¬ (IsNamed first ▸ IsNamed second ▸ IsNamed third ▸ IsSpaces) bytes.now)
+        (λ p. (IsNamed p.0 ▸ IsNamed p.1 ▸ IsNamed p.2 ▸ IsSpaces) bytes.now)) }
+{
+    let Some((first, rest)) = read_first_name(alloc, bytes)? else {
+        return Ok(None);
+    };
+    let Some((second, third)) = read_two_names(alloc, rest)? else {
+        return Ok(None);
+    };
+    Ok(Some((first, second, third)))
+}
+
 // The word that is the one token. Three passes over the bytes.
 fn read_last_word(alloc: Global, bytes: &[u8]) -> Result<Option<Word>, NoMemory>
     ensures { IfOk result (λ found. MatchOption found
@@ -220,6 +295,24 @@ fn read_last_word(alloc: Global, bytes: &[u8]) -> Result<Option<Word>, NoMemory>
         return Ok(None);
     };
     read_word(alloc, token)
+}
+
+// The two words that are the bytes. Four passes over them.
+fn read_two_words(alloc: Global, bytes: &[u8]) -> Result<Option<(Word, Word)>, NoMemory>
+    ensures { IfOk result (λ found. MatchOption found
+        ((first second : Word) → ¬ (IsWritten first ▸ IsWritten second ▸ IsSpaces) bytes.now)
+        (λ p. (IsWritten p.0 ▸ IsWritten p.1 ▸ IsSpaces) bytes.now)) }
+{
+    let Some((_, token, rest)) = first_token(bytes) else {
+        return Ok(None);
+    };
+    let Some(first) = read_word(alloc, token)? else {
+        return Ok(None);
+    };
+    let Some(second) = read_last_word(alloc, rest)? else {
+        return Ok(None);
+    };
+    Ok(Some((first, second)))
 }
 
 // The file's name that is the one token. Two passes over the bytes.

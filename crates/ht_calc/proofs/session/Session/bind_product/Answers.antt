@@ -1,16 +1,17 @@
-use Rattle.std.proofs.Common.{◌≡◌, Some, length, rules, subst, subst₂, refl, true≢false, sym, ap, ◌∙◌}
+use Rattle.std.proofs.Common.{◌≡◌, List, Some, length, rules, subst, subst₂, refl, true≢false, sym, ap, ◌∙◌}
 use Rattle.ht_word.specs.declared.shape.Shape.{Shape}
 use Rattle.ht_pair.specs.Actions.{IsCanonical}
 use Rattle.ht_pair.proofs.AlikeLaws.{alike_refl}
+use Rattle.ht_script.specs.declared.factor.Factor.{Factor}
 use Rattle.ht_script.specs.declared.line.Line.TheVariants as line
 use Rattle.ht_answer.specs.declared.answer.Answer.TheVariants.{Let, Refused}
 use Rattle.ht_answer.specs.declared.answer.Refusal.TheVariants as refusal
-use Rattle.ht_calc.specs.Names.{rows_by_name, bind}
-use Rattle.ht_calc.specs.Products.{AreBound, IsFirstUnbound, HasWide}
+use Rattle.ht_calc.specs.Names.{rows_by_name, bind, AreBound, IsFirstUnbound}
+use Rattle.ht_calc.specs.Products.{names_of, HasWide}
 use Rattle.ht_calc.specs.States.{State}
-use Rattle.ht_calc.specs.Steps.{Does, before_group, product_bound, product_unbound, product_no_room, product_wide}
+use Rattle.ht_calc.specs.Steps.{Does, before_group, unbound, no_room, product_bound, product_wide}
 use Rattle.ht_calc.proofs.FactorLaws.{bound_by_rows, unbound_by_rows, line_terms, line_terms_stand}
-use Rattle.ht_calc.proofs.NameLaws.{same_room}
+use Rattle.ht_calc.proofs.NameLaws.{same_room, no_room_for}
 use Rattle.ht_calc.proofs.StepLaws.{element_bound, large_refused}
 use Rattle.ht_calc.proofs.session.Session.bind_product.Goals as goal
 
@@ -22,24 +23,24 @@ pub returns-in-Some-first_unbound-clause-step : goal.returns-in-Some-first_unbou
 returns-in-Some-first_unbound-clause-step c =
     let names = c.self.inside.names in
     subst (λ (s : State). Does s (line.LetProduct c.args.name c.args.factors) (Refused (refusal.Name c.in_ok-copy.field-0)) s) c.self.view_is
-    (product_unbound c.args.name c.in_ok-copy.field-0 c.args.factors (search rules)
-    (subst₂ (IsFirstUnbound (rows_by_name names)) c.as_slice-factors.ensures (sym c.in_ok-copy.ensures)
-    (unbound_by_rows names c.as_slice-factors.result.now c.in-Some-first_unbound.missing.now c.in-Some-first_unbound.ensures)))
+    (unbound (line.LetProduct c.args.name c.args.factors) c.in_ok-copy.field-0 (search rules)
+    (subst₂ (λ (t : List Factor) name. IsFirstUnbound (rows_by_name names) (names_of t) name) c.as_slice-factors.ensures (sym c.in_ok-copy.ensures)
+    (unbound_by_rows names (names_of c.as_slice-factors.result.now) c.in-Some-first_unbound.missing.now c.in-Some-first_unbound.ensures)))
 
 pub returns-then-not-has_room-clause-step : goal.returns-then-not-has_room-clause-step
 returns-then-not-has_room-clause-step c =
     let names = c.self.inside.names in
     subst (λ (s : State). Does s (line.LetProduct c.args.name c.args.factors) (Refused refusal.Names) s) c.self.view_is
-    (product_no_room c.args.name c.args.factors (search rules)
-    (subst (AreBound (rows_by_name names)) c.as_slice-factors.ensures (bound_by_rows names c.as_slice-factors.result.now c.in_default-first_unbound.ensures))
-    (λ room. true≢false (sym (c.if-not-has_room.ensures.1 ((same_room names c.args.name).0 room)))))
+    (no_room (line.LetProduct c.args.name c.args.factors) (search rules)
+    (subst (λ (t : List Factor). AreBound (rows_by_name names) (names_of t)) c.as_slice-factors.ensures (bound_by_rows names (names_of c.as_slice-factors.result.now) c.in_default-first_unbound.ensures))
+    (no_room_for (rows_by_name names) c.args.name (λ room. true≢false (sym (c.if-not-has_room.ensures.1 ((same_room names c.args.name).0 room))))))
 
 pub returns-then-has_wide-clause-step : goal.returns-then-has_wide-clause-step
 returns-then-has_wide-clause-step c =
     let names = c.self.inside.names in
     subst (λ (s : State). Does s (line.LetProduct c.args.name c.args.factors) (Refused refusal.Wide) s) c.self.view_is
     (product_wide c.args.name c.args.factors (search rules)
-    (subst (AreBound (rows_by_name names)) c.as_slice-factors.ensures (bound_by_rows names c.as_slice-factors.result.now c.in_default-first_unbound.ensures))
+    (subst (λ (t : List Factor). AreBound (rows_by_name names) (names_of t)) c.as_slice-factors.ensures (bound_by_rows names (names_of c.as_slice-factors.result.now) c.in_default-first_unbound.ensures))
     ((same_room names c.args.name).1 (c.if-not-has_room.ensures.0 refl))
     (subst HasWide c.as_slice-factors.ensures (c.if-has_wide.ensures.0 refl)))
 

@@ -1,11 +1,12 @@
-use Rattle.std.proofs.Common.{length, rules, subst, refl, true≢false, sym}
+use Rattle.std.proofs.Common.{◌≢◌, None, length, rules, subst, refl, true≢false, sym}
+use Rattle.std.proofs.lemmas.List.Elements.{All-nil}
 use Rattle.ht_script.specs.declared.line.Line.TheVariants as line
 use Rattle.ht_answer.specs.declared.answer.Answer.TheVariants.{Let, Refused}
 use Rattle.ht_answer.specs.declared.answer.Refusal.TheVariants as refusal
-use Rattle.ht_calc.specs.Names.{bind}
+use Rattle.ht_calc.specs.Names.{rows_by_name, bound, bind}
 use Rattle.ht_calc.specs.States.{State}
-use Rattle.ht_calc.specs.Steps.{Does, before_group, let_bound, let_no_room, let_refused}
-use Rattle.ht_calc.proofs.NameLaws.{same_room}
+use Rattle.ht_calc.specs.Steps.{Does, before_group, no_room, let_bound, let_refused}
+use Rattle.ht_calc.proofs.NameLaws.{same_room, no_room_for}
 use Rattle.ht_calc.proofs.StepLaws.{element_bound}
 use Rattle.ht_calc.proofs.LineSizes.{never_large}
 use Rattle.ht_calc.proofs.session.Session.bind_rows.Goals as goal
@@ -17,7 +18,8 @@ returns-in_default-clause-step c =
 pub returns-then-not-has_room-clause-step : goal.returns-then-not-has_room-clause-step
 returns-then-not-has_room-clause-step c =
     subst (λ (s : State). Does s (line.LetRows c.args.name c.args.rows) (Refused refusal.Names) s) c.self.view_is
-    (let_no_room c.args.name c.args.rows (search rules) (λ room. true≢false (sym (c.if-not-has_room.ensures.1 ((same_room c.self.inside.names c.args.name).0 room)))))
+    (no_room (line.LetRows c.args.name c.args.rows) (search rules) (All-nil (λ other. bound (rows_by_name c.self.inside.names) other ≢ None))
+    (no_room_for (rows_by_name c.self.inside.names) c.args.name (λ room. true≢false (sym (c.if-not-has_room.ensures.1 ((same_room c.self.inside.names c.args.name).0 room))))))
 
 pub returns-in-Ok-clause-step : goal.returns-in-Ok-clause-step
 returns-in-Ok-clause-step c =

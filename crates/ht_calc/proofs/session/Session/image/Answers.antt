@@ -1,15 +1,12 @@
-use Rattle.std.proofs.Common.{◌≡◌, ◌∙◌, List, Option, Some, rules, refl, sym, ap, subst, true≢false}
-use Rattle.ht_word.specs.declared.word.Word.{Word}
-use Rattle.ht_word.specs.declared.shape.Shape.{Shape}
-use Rattle.ht_word.specs.Words.{IsWordOf}
+use Rattle.std.proofs.Common.{◌∙◌, List, [], rules, refl, sym, ap, subst, true≢false}
 use Rattle.ht_pair.specs.declared.row.Row.{Row}
 use Rattle.ht_script.specs.declared.line.Line.TheVariants as line
 use Rattle.ht_answer.specs.declared.answer.Answer.TheVariants.{Pair, Refused}
 use Rattle.ht_answer.specs.declared.answer.Refusal.TheVariants as refusal
 use Rattle.ht_calc.specs.Names.{rows_by_name}
 use Rattle.ht_calc.specs.States.{State}
-use Rattle.ht_calc.specs.Steps.{Does, before_group, image_shown, image_unbound, image_foreign}
-use Rattle.ht_calc.proofs.NameLaws.{rows_of, bound_rows, bound_of_shape}
+use Rattle.ht_calc.specs.Steps.{Does, before_group, unbound, image_shown, image_foreign}
+use Rattle.ht_calc.proofs.NameLaws.{rows_of, bound_rows, bound_of_shape, word_of_element, first_unbound}
 use Rattle.ht_calc.proofs.session.Session.image.Goals as goal
 
 pub returns-in_default-clause-step : goal.returns-in_default-clause-step
@@ -19,7 +16,7 @@ returns-in_default-clause-step c =
 pub returns-in_default-get-clause-step : goal.returns-in_default-get-clause-step
 returns-in_default-get-clause-step c =
     subst (λ (s : State). Does s (line.Image c.args.name c.args.word) (Refused (refusal.Name c.args.name)) s) c.self.view_is
-    (image_unbound c.args.name c.args.word (search rules) (bound_rows c.self.inside.names c.args.name ∙ ap rows_of c.in_default-get.ensures))
+    (unbound (line.Image c.args.name c.args.word) c.args.name (search rules) (first_unbound (rows_by_name c.self.inside.names) c.args.name [] (bound_rows c.self.inside.names c.args.name ∙ ap rows_of c.in_default-get.ensures)))
 
 pub returns-then-not-holds-clause-step : goal.returns-then-not-holds-clause-step
 returns-then-not-holds-clause-step c =
@@ -27,13 +24,9 @@ returns-then-not-holds-clause-step c =
     (image_foreign c.args.name c.args.word c.in-Some-get.element.now.rows c.in-Some.shape (search rules) (bound_rows c.self.inside.names c.args.name ∙ ap rows_of c.in-Some-get.ensures)
     (λ word. true≢false (sym (c.if-not-holds.ensures.1 word))))
 
--- the word is of the element's shape
-of_element : (shape : Option Shape) (given of : Shape) (word : Word) → Some of ≡ shape → shape ≡ Some given → IsWordOf given word → IsWordOf of word
-of_element shape given of word e some h = let same : given ≡ of = cc in subst (λ (s : Shape). IsWordOf s word) same h
-
 pub image_rows-requires : goal.image_rows-requires
 image_rows-requires c =
-    of_element c.self.inside.shape c.in-Some.shape c.in-Some-get.element.now.shape c.args.word
+    word_of_element c.self.inside.shape c.in-Some.shape c.in-Some-get.element.now.shape c.args.word
     (bound_of_shape c.self.inside.shape c.self.inside.names c.args.name c.in-Some-get.element.now c.self.invariant.of_shape c.in-Some-get.ensures).shape_is (search rules) (c.if-not-holds.ensures.0 refl)
 
 pub returns-clause-step : goal.returns-clause-step
@@ -46,4 +39,4 @@ returns-clause-step c =
     subst (λ (s : State). Does s (line.Image c.args.name c.args.word) (Pair c.in_ok-image_rows.field-0) s) c.self.view_is
     (subst (λ (rows : List Row). Does old (line.Image c.args.name c.args.word) (Pair rows) old) (sym shown.2)
     (image_shown c.args.name c.args.word element.rows shown.0 element.shape (sym shape_is) (bound_rows names c.args.name ∙ ap rows_of c.in-Some-get.ensures)
-    (of_element c.self.inside.shape c.in-Some.shape element.shape c.args.word shape_is (search rules) (c.if-not-holds.ensures.0 refl)) shown.1))
+    (word_of_element c.self.inside.shape c.in-Some.shape element.shape c.args.word shape_is (search rules) (c.if-not-holds.ensures.0 refl)) shown.1))

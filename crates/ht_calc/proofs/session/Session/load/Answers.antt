@@ -1,12 +1,13 @@
-use Rattle.std.proofs.Common.{rules, None, Some, subst, refl, true≢false, sym}
+use Rattle.std.proofs.Common.{◌≢◌, rules, None, Some, subst, refl, true≢false, sym}
+use Rattle.std.proofs.lemmas.List.Elements.{All-nil}
 use Rattle.ht_script.specs.declared.line.Line.TheVariants as line
 use Rattle.ht_answer.specs.declared.answer.Answer.TheVariants.{Refused}
 use Rattle.ht_answer.specs.declared.answer.Refusal.TheVariants as refusal
 use Rattle.ht_calc.specs.Loads.{Loads, no_file}
-use Rattle.ht_calc.specs.Names.{HasRoom}
+use Rattle.ht_calc.specs.Names.{rows_by_name, bound, HasRoom}
 use Rattle.ht_calc.specs.States.{State}
-use Rattle.ht_calc.specs.Steps.{Does, before_group, load_no_room}
-use Rattle.ht_calc.proofs.NameLaws.{same_room}
+use Rattle.ht_calc.specs.Steps.{Does, before_group, no_room}
+use Rattle.ht_calc.proofs.NameLaws.{same_room, no_room_for}
 use Rattle.ht_calc.proofs.StepLaws.{alone, fetched, fetched_or_err}
 use Rattle.ht_calc.proofs.session.Session.load.Goals as goal
 
@@ -21,7 +22,8 @@ returns-then-not-has_room-clause-step g c = λ bytes is.
     let asks = line.Load c.args.name c.args.file.now in
     alone c.args.self.now c.args.self.now asks asks (Refused refusal.Names) (g.L.Library.files c.args.files.now) (g.L.Library.faults c.args.files.now) bytes refl
     (subst (λ (s : State). Does s asks (Refused refusal.Names) s) c.self.view_is
-    (load_no_room c.args.name c.args.file.now (search rules) (λ room. true≢false (sym (c.if-not-has_room.ensures.1 ((same_room c.self.inside.names c.args.name).0 room)))))) is
+    (no_room asks (search rules) (All-nil (λ other. bound (rows_by_name c.self.inside.names) other ≢ None))
+    (no_room_for (rows_by_name c.self.inside.names) c.args.name (λ room. true≢false (sym (c.if-not-has_room.ensures.1 ((same_room c.self.inside.names c.args.name).0 room))))))) is
 
 pub returns-in_default-2-clause-step : goal.returns-in_default-2-clause-step
 returns-in_default-2-clause-step g c = λ bytes is.
