@@ -8,51 +8,8 @@ import random
 import subprocess
 import sys
 
-from common.words import behind, is_reduced, moved, parse, parse_word, rows_text, some_pair, turned, under
-
-# Words that leave a basis of so few words leave it within fewer steps.
-MOST_STEPS = 120
-
-
-def is_under(u, basis):
-    return any(under(u, x) for x in basis)
-
-
-def stays(rows, x, basis):
-    """Whether each power from 0 on carries x to a word under the basis. The rows are reduced, so a
-    word is carried exactly where some `from` word is a prefix of it."""
-    for _ in range(MOST_STEPS):
-        if not is_under(x, basis):
-            return False
-        x = moved(rows, x)
-        if x is None:
-            return False
-    return True
-
-
-def is_semi_normal(rows, basis):
-    back = turned(rows)
-    return all(stays(rows, x, basis) or stays(back, x, basis) for x in basis)
-
-
-def all_bases(n, r, most):
-    """All bases of at most so many expansions, by their number."""
-    roots = frozenset((i, ()) for i in range(1, r + 1))
-    levels = [{roots}]
-    for _ in range(most):
-        levels.append({basis - {x} | {behind(x, (c,)) for c in range(1, n + 1)} for basis in levels[-1] for x in basis})
-    return levels
-
-
-def least(rows, levels):
-    """The number of expansions and the words of the basis that all others are under, or None."""
-    semi_normal = [basis for level in levels for basis in level if is_semi_normal(rows, basis)]
-    for expansions, level in enumerate(levels):
-        for basis in level:
-            if basis in semi_normal:
-                assert all(is_under(x, basis) for other in semi_normal for x in other)
-                return expansions, sorted(basis)
-    return None
+from common.bases import all_bases, least
+from common.words import is_reduced, parse, parse_word, rows_text, some_pair
 
 
 def ask(program, n, r, rows, budget):
@@ -67,7 +24,7 @@ def reduced(program, n, r, rows):
     done = subprocess.run([program], input=script.encode(), stdout=subprocess.PIPE, timeout=60)
     rows = parse(done.stdout.decode().split("\n")[1])
     assert is_reduced(n, rows)
-    return rows
+    return tuple(rows)
 
 
 def main():

@@ -96,13 +96,18 @@ def some_letters(rng, n, length):
     return tuple(rng.randrange(1, n + 1) for _ in range(length))
 
 
-def some_basis(rng, n, r, size):
-    """The roots after some random expansions."""
-    words = [(i, ()) for i in range(1, r + 1)]
+def some_expanded(rng, n, words, size):
+    """The words after some random expansions."""
+    words = list(words)
     for _ in range(size):
         u = words.pop(rng.randrange(len(words)))
         words += [behind(u, (c,)) for c in range(1, n + 1)]
     return words
+
+
+def some_basis(rng, n, r, size):
+    """The roots after some random expansions."""
+    return some_expanded(rng, n, [(i, ()) for i in range(1, r + 1)], size)
 
 
 def some_pair(rng, n, r, size):
@@ -110,3 +115,17 @@ def some_pair(rng, n, r, size):
     froms, tos = some_basis(rng, n, r, size), some_basis(rng, n, r, size)
     rng.shuffle(tos)
     return list(zip(froms, tos))
+
+
+def some_element(rng, n, r, size):
+    """Some words of a basis are permuted, and what is under the others is cut in two ways: none, some or
+    all words."""
+    words = some_basis(rng, n, r, size)
+    rng.shuffle(words)
+    cut = rng.choice([0, 0, rng.randrange(len(words) + 1), rng.randrange(len(words) + 1), len(words)])
+    still, others = words[:cut], words[cut:]
+    more = rng.randrange(4) if others else 0
+    froms, tos = still + some_expanded(rng, n, others, more), some_expanded(rng, n, others, more)
+    rng.shuffle(still)
+    rng.shuffle(tos)
+    return list(zip(froms, still + tos))

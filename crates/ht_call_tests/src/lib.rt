@@ -6,6 +6,10 @@
 //! - `images`: images of words
 //! - `files`: element files
 //! - `bases`: bases, and quasinormal bases
+//! - `kinds`: kinds of words
+//! - `walks`: walks and exits
+//! - `parts`: orders, profiles and parts
+//! - `numbers`: divisors and multiples
 #![tactic(auto)]
 
 #[cfg(test)]
@@ -15,8 +19,16 @@ mod files;
 #[cfg(test)]
 mod images;
 #[cfg(test)]
+mod kinds;
+#[cfg(test)]
 mod limits;
 #[cfg(test)]
 mod memory;
 #[cfg(test)]
+mod numbers;
+#[cfg(test)]
 mod operations;
+#[cfg(test)]
+mod parts;
+#[cfg(test)]
+mod walks;

@@ -1,0 +1,144 @@
+"""Conjugators of elements of finite order against the definition: each one that is printed is multiplied
+out, conjugates of one element are conjugate, and where the answer is that no element conjugates, none
+of few rows does. A name is bound after `conjugate ROWS` alone, elements of infinite order are
+refused, and a conjugator with too long words is printed and not kept.
+
+usage: conjugators.py PROGRAM
+"""
+import itertools
+import random
+import subprocess
+import sys
+
+from common.bases import all_bases
+from common.powers import product
+from common.words import all_letters, behind, is_canonical, longest, moved, parse, rows_text, some_basis, some_letters, some_pair, turned
+
+COMMANDS = ["let a = {a}", "let b = {b}", "order a", "order b", "basis a", "basis b", "conj {h} a b", "show {h}"]
+
+# Groups, with the most expansions of the bases that are permuted and of those of the conjugators tried.
+GROUPS = [(2, 1, 5, 3), (2, 2, 4, 2), (3, 1, 4, 2), (3, 2, 3, 1), (4, 1, 3, 1), (5, 1, 3, 1), (5, 2, 2, 1)]
+
+
+def conjugated(n, r, by, rows):
+    """The canonical pair of the rows, conjugated by a pair."""
+    return product(n, r, [turned(by), rows, by])
+
+
+def permuted(rng, n, r, size):
+    """The words of a basis, permuted."""
+    words = some_basis(rng, n, r, size)
+    others = list(words)
+    rng.shuffle(others)
+    return product(n, r, [list(zip(words, others))])
+
+
+def some_case(rng, n, r, most):
+    """Two elements, and whether they are known to be conjugate."""
+    a = permuted(rng, n, r, rng.randrange(most + 1))
+    chosen = rng.randrange(8)
+    if chosen == 0:
+        return a, product(n, r, [some_pair(rng, n, r, 2)]), False
+    if chosen < 4:
+        return a, conjugated(n, r, some_pair(rng, n, r, rng.randrange(most)), a), True
+    return a, permuted(rng, n, r, rng.randrange(most + 1)), False
+
+
+def all_pairs(n, r, most):
+    """All pairs of bases of at most so many expansions."""
+    for level in all_bases(n, r, most):
+        for froms, tos in itertools.product(level, level):
+            for order in itertools.permutations(sorted(tos)):
+                yield list(zip(sorted(froms), order))
+
+
+def ask(program, n, r, cases):
+    """The answers to the commands for each two elements."""
+    script = [f"group {n} {r}"]
+    for place, (a, b, _) in enumerate(cases):
+        script += [command.format(a=rows_text(a), b=rows_text(b), h=f"h{place}") for command in COMMANDS]
+    done = subprocess.run([program], input="".join(f"{line}\n" for line in script).encode(), stdout=subprocess.PIPE, timeout=60)
+    answers = done.stdout.decode().split("\n")[1:-1]
+    size = len(COMMANDS)
+    return [answers[at + 2:at + size] for at in range(0, len(answers) - size + 1, size)]
+
+
+def faults(n, r, place, case, answers, pairs):
+    """What is wrong with the answers."""
+    a, b, known = case
+    *orders, first, second, verdict, shown = answers
+    unbound = f"refused: name h{place}"
+    if "order infinite" in orders:
+        return [] if (verdict, shown) == ("refused: infinite", unbound) else ["an order is infinite"]
+    if verdict == "not conjugate":
+        wrong = ["they are conjugate"] if known or any(conjugated(n, r, h, a) == b for h in pairs) else []
+        return wrong if shown == unbound else wrong + ["the name is bound"]
+    if not verdict.startswith("conjugate x"):
+        return ["no verdict"]
+    h = parse(verdict.removeprefix("conjugate "))
+    wrong = [] if is_canonical(n, r, h) and conjugated(n, r, h, a) == b else ["it doesn't conjugate"]
+    if len(h) > len(first.split()) + len(second.split()):
+        wrong.append("it has too many rows")
+    return wrong if shown == rows_text(h) else wrong + ["another element is bound"]
+
+
+def deep_exchange(letters):
+    """The two words of so many letters behind letters 1 are exchanged, and no others move."""
+    below = (1,) * letters
+    first, second = (1, below + (1,)), (1, below + (2,))
+    return [(first, second), (second, first)] + [((1, (1,) * k + (2,)),) * 2 for k in range(letters)]
+
+
+def not_kept_faults(program, rng):
+    """Two elements with one cycle of two words of 1,020 letters and with 32: five levels are expanded."""
+    a = deep_exchange(1_019)
+    b = [((1, (1,) + z), (1, (1,) + tuple(3 - c for c in z))) for z in all_letters(2, 6)] + [((1, (2,)), (1, (2,)))]
+    script = [
+        "group 2 1",
+        "let t = x1.1>x1.11;x1.21>x1.12;x1.22>x1.2",
+        "let h = x1.11>x1.12;x1.12>x1.11;x1.2>x1.2",
+        "let a = t^-1018 h t^1018",
+        f"let b = {rows_text(b)}",
+        "conj h a b",
+        "show h",
+    ]
+    done = subprocess.run([program], input="".join(f"{line}\n" for line in script).encode(), stdout=subprocess.PIPE, timeout=60)
+    verdict, shown = done.stdout.decode().split("\n")[5:7]
+    front, _, text = verdict.rpartition(" ")
+    h = parse(text)
+    wrong = [] if front == f"conjugate not kept {len(h)} {longest([u for row in h for u in row])}" else [f"the answer is {front}"]
+    if not any(len(u[1]) > 1_024 for row in h for u in row) or not is_canonical(2, 1, h):
+        wrong.append("the rows are kept ones or not canonical")
+    for u, _ in rng.sample(h, 60):
+        long = behind(u, some_letters(rng, 2, 1_100))
+        if moved(h, moved(a, long)) != moved(b, moved(h, long)):
+            wrong.append("the rows don't conjugate")
+    return wrong if shown == "x1.11>x1.12;x1.12>x1.11;x1.2>x1.2" else wrong + ["the name has another element"]
+
+
+def main():
+    rng = random.Random(1974)
+    yes = no = infinite = wrong = 0
+    for fault in not_kept_faults(sys.argv[1], rng):
+        wrong += 1
+        print(f"conjugators: long words: {fault}")
+    for n, r, most, tried in GROUPS:
+        cases = [some_case(rng, n, r, most) for _ in range(60)]
+        pairs = list(all_pairs(n, r, tried))
+        answered = ask(sys.argv[1], n, r, cases)
+        if len(answered) != len(cases):
+            wrong += 1
+            print(f"conjugators: answers for {len(answered)} cases of {len(cases)}")
+        for place, (case, answers) in enumerate(zip(cases, answered)):
+            yes += answers[4].startswith("conjugate x")
+            no += answers[4] == "not conjugate"
+            infinite += answers[4] == "refused: infinite"
+            found = faults(n, r, place, case, answers, pairs)
+            wrong += found != []
+            for fault in found:
+                print(f"conjugators: group {n} {r}, {rows_text(case[0])} and {rows_text(case[1])} are answered {answers}: {fault}")
+    print(f"conjugators: {yes} conjugate, {no} not, {infinite} of infinite order, {wrong} wrong")
+    return 1 if wrong else 0
+
+
+sys.exit(main())
