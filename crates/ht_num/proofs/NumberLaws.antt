@@ -2,7 +2,7 @@
 use Rattle.std.proofs.Common.{◌≡◌, ◌↔◌, ℕ, zero, suc, ◌*◌, ◌/◌, ◌%◌, ◌≤◌, ◌<◌, ◌⊎◌, inl, inr, refl, sym, ap, subst, ◌∙◌, arith}
 use Rattle.std.specs.Int.{◌∣◌, IsGcd}
 use Rattle.std.proofs.lemmas.Bool.{cases_lt, cases_eq}
-use Rattle.std.proofs.lemmas.Nat.Gcd.{dvd_trans, dvd_of_mod-eq-zero, le_of_dvd}
+use Rattle.std.proofs.lemmas.Nat.Gcd.{dvd_trans, dvd_of_mod-eq-zero, le_of_dvd, IsGcd-from_zero, IsGcd-from_mod}
 use Rattle.std.proofs.Math.Nat.{dvd-mod_iff, mod-lt, div-mul_cancel, mul-dvd-mul_left, dvd_of_mul-dvd-mul_right, dvd-mul_left, dvd-mul_right, mul-le-mul_left, mul_comm, one-le-mul, pos_of_dvd_of_pos, le_refl}
 use Rattle.ht_num.specs.Numbers.{IsLeastPositive, IsLeastMultiple, IsLcm, IsWide}
 
@@ -118,3 +118,15 @@ lcm_from_gcd a b g one two common =
       ];
       least = λ j low l each. no_lesser j a b g (a / g * b) j (le_refl j) one two common is first second low l (each a (inl refl)) (each b (inr refl));
     }
+
+-- there is a greatest common divisor
+gcd_exists : (most a b : ℕ) → b ≤ most → (g : ℕ) × IsGcd a b g
+gcd_exists zero a b small = (a, IsGcd-from_zero a b (omega arith))
+gcd_exists (suc most) a b small = elim (cases_eq b 0) [
+  | inl none ↦ (a, IsGcd-from_zero a b none)
+  | inr some ↦ let positive : 1 ≤ b = omega (arith, some) in let g = gcd_exists most b (a % b) (omega (arith, small, mod-lt a positive)) in (g.0, IsGcd-from_mod a b g.0 g.1)
+]
+
+-- and a least common multiple
+pub lcm_exists : (a b : ℕ) → 1 ≤ a → 1 ≤ b → (k : ℕ) × IsLcm a b k
+lcm_exists a b one two = let g = gcd_exists b a b (le_refl b) in (a / g.0 * b, lcm_from_gcd a b g.0 one two g.1)

@@ -93,6 +93,21 @@ impl Image {
         }
     }
 
+    /// The same by |k| steps, one after another, of the element or its inverse: where these are known
+    /// to be few, or the power to be large.
+    pub fn walk(&self, alloc: Global, f: &Element, k: i128) -> Result<Image, NoMemory>
+        requires { IsValueList f.now.shape self.now }
+        ensures { IfOk result (λ image. IsFollowed f.now.shape self.now f.now.rows k image) }
+    {
+        f.keeps_limits();
+        if k < 0 {
+            let back = inverse(alloc, f)?;
+            self.walk_by(alloc, &back, k.unsigned_abs())
+        } else {
+            self.walk_by(alloc, f, k.unsigned_abs())
+        }
+    }
+
     /// The word that the whole cone is sent to; `None` exactly where it isn't sent to one cone. No
     /// memory; constant time.
     pub fn as_word(&self) -> Option<&Word>
@@ -116,20 +131,6 @@ impl Image {
         rows_behind(alloc, base, self.rows.as_slice())
     }
 
-    // The image followed by the k-th power, step by step.
-    fn walk(&self, alloc: Global, f: &Element, k: i128) -> Result<Image, NoMemory>
-        requires { IsValueList f.now.shape self.now }
-        ensures { IfOk result (λ image. IsFollowed f.now.shape self.now f.now.rows k image) }
-    {
-        f.keeps_limits();
-        if k < 0 {
-            let back = inverse(alloc, f)?;
-            self.walk_by(alloc, &back, k.unsigned_abs())
-        } else {
-            self.walk_by(alloc, f, k.unsigned_abs())
-        }
-    }
-
     // The image followed so many times by the element.
     fn walk_by(&self, alloc: Global, g: &Element, count: u128) -> Result<Image, NoMemory>
         requires { IsValueList g.now.shape self.now }
@@ -149,8 +150,8 @@ fn followed(alloc: Global, rows: &[Row], f: &Element) -> Result<Rows, NoMemory>
     ensures blocks { IfOk result (AreBlocks f.now.shape f.now.rows rows.now) }
     ensures second { OnOk result (IsPair f.now.shape f.now.rows) }
 {
-    let others = f.rows(alloc)?;
-    blocks_of(alloc, f.shape(), rows, others.as_slice())
+    f.keeps_limits();
+    blocks_of(alloc, f.shape(), rows, f.as_rows())
 }
 
 // The rows, from the base with the letters of their `from` words.

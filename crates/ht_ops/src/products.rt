@@ -14,8 +14,8 @@ use ht_word::NoMemory;
 use std::alloc::Global;
 
 /// The product: the first element, and then the second. `Large` comes where its canonical pair is
-/// larger than an element may be. From M and N rows, which it copies, it makes at most M + N rows by
-/// O(M log N + N) comparisons of words, and sorts these by O((M + N) log(M + N)) more.
+/// larger than an element may be. From M and N rows it makes at most M + N rows by O(M log N + N)
+/// comparisons of words, and sorts these by O((M + N) log(M + N)) more.
 pub fn product(alloc: Global, a: &Element, b: &Element) -> Result<Element, OpFault>
     requires { a.now.shape ≡ b.now.shape }
     ensures product { IfOk result (λ s. (s.shape ≡ a.now.shape) × IsProduct a.now.shape a.now.rows b.now.rows s.rows) }
@@ -36,9 +36,9 @@ fn product_rows(alloc: Global, a: &Element, b: &Element) -> Result<Rows, NoMemor
     ensures first { OnOk result (IsPair a.now.shape a.now.rows) }
     ensures second { OnOk result (IsPair a.now.shape b.now.rows) }
 {
-    let rows = a.rows(alloc)?;
-    let others = b.rows(alloc)?;
-    full_product(alloc, a.shape(), rows.as_slice(), others.as_slice())
+    a.keeps_limits();
+    b.keeps_limits();
+    full_product(alloc, a.shape(), a.as_rows(), b.as_rows())
 }
 
 /// Why a pair is no element within the limits: it is too large, or memory is wanting. Constant time.

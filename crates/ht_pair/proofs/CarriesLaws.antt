@@ -1,8 +1,8 @@
 -- What powers carry.
-use Rattle.std.proofs.Common.{◌≡◌, ℕ, List, [], ◌++◌, refl, sym, ap, ◌∙◌, subst, arith, ℤ, pos, neg_ℤ, ◌↔◌, ◌+ℤ◌}
+use Rattle.std.proofs.Common.{◌≡◌, ℕ, List, [], ◌∷◌, ◌++◌, refl, sym, ap, ◌∙◌, subst, arith, ℤ, pos, neg_ℤ, ◌↔◌, ◌+ℤ◌}
 use Rattle.std.proofs.lemmas.Int.{ints}
-use Rattle.std.proofs.lemmas.List.Elements.{All-nil}
-use Rattle.ht_word.specs.Words.{IsLetter, IsLetters, IsWordOf, ◌·◌}
+use Rattle.std.proofs.lemmas.List.Elements.{All-nil, All-head, All-tail}
+use Rattle.ht_word.specs.Words.{IsLetter, IsLetters, IsWordOf, ◌·◌, child}
 use Rattle.ht_word.specs.declared.shape.Shape.{Shape}
 use Rattle.ht_word.specs.declared.word.Word.{Word}
 use Rattle.ht_word.proofs.WordLaws.{after-append, after-nil, after_cancel_right, letters_append, word_after, word_front, ones, ones_letters}
@@ -42,6 +42,19 @@ carries_extends shape p k u v z hz c = record {
   word = word_after shape u z c.word hz;
   carried = λ y w hy s. c.carried (z ++ y) w (letters_append shape z y hz hy) (subst (λ t. Steps p k t w) (after-append u z y) s) ∙ sym (after-append v z y);
 }
+
+-- a word all of whose children are carried to the children of another is carried there
+pub carries_children : (shape : Shape) (p : List Row) → IsPair shape p → (k : ℤ) (u v : Word) → IsWordOf shape u → ((a : ℕ) → IsLetter shape a → Carries shape p k (child u a) (child v a)) → Carries shape p k u v
+carries_children shape p pair k u v h each = record { word = h; carried = by }
+  where
+    by : (z : List ℕ) (w : Word) → IsLetters shape z → Steps p k (u · z) w → w ≡ v · z
+    by [] w hz s =
+        let m = (steps_map shape p pair k).ahead in
+        let one : IsLetter shape 1 = (omega arith, omega (arith, shape.letters_low)) in
+        let longer : Steps p k (child u 1 · []) (child w 1) = subst (λ t. Steps p k t (child w 1)) (ap (λ t. child t 1) (after-nil u) ∙ sym (after-nil (child u 1))) (m.extends (u · []) w (1 ∷ []) s) in
+        after_cancel_right w (v · []) (1 ∷ []) ((each 1 one).carried [] (child w 1) hz longer ∙ after-nil (child v 1) ∙ ap (λ t. child t 1) (sym (after-nil v)))
+    by (a ∷ z) w hz s =
+        (each a (All-head (IsLetter shape) a z hz)).carried z w (All-tail (IsLetter shape) a z hz) (subst (λ t. Steps p k t w) (sym (after-append u (a ∷ []) z)) s) ∙ after-append v (a ∷ []) z
 
 -- no steps carry each word to itself, and to no other
 pub carries_none : (shape : Shape) (p : List Row) (u v : Word) → IsWordOf shape u → Carries shape p (pos 0) u v ↔ (u ≡ v)

@@ -115,6 +115,13 @@ impl Element {
         longest_in(self.rows.as_slice())
     }
 
+    /// The canonical pair's rows. Constant time.
+    pub fn as_rows(&self) -> &[Row]
+        ensures { result.now ≡ self.now.rows }
+    {
+        self.rows.as_slice()
+    }
+
     /// A copy of the canonical pair's rows.
     pub fn rows(&self, alloc: Global) -> Result<Rows, NoMemory>
         ensures rows { IfOk result (λ rows. rows ≡ self.now.rows) }
@@ -167,8 +174,8 @@ fn longest_in(rows: &[Row]) -> usize
     longest
 }
 
-// Equal rows.
-fn copy_rows(alloc: Global, rows: &[Row]) -> Result<Rows, NoMemory>
+/// Equal rows. Copies the words.
+pub fn copy_rows(alloc: Global, rows: &[Row]) -> Result<Rows, NoMemory>
     ensures { IfOk result (λ copy. copy ≡ rows.now) }
 {
     let mut copy = Rows::new(alloc);

@@ -29,7 +29,7 @@ mod tiling;
 mod verdict;
 
 pub use basis::Basis;
-pub use element::Element;
+pub use element::{Element, copy_rows};
 pub use fault::{OpFault, RowsFault};
 pub use moves::place_of;
 pub use reduce::{merge_table, reduce_rows};

@@ -6,7 +6,7 @@ use Rattle.std.proofs.lemmas.List.{take_more}
 use Rattle.std.proofs.lemmas.Option.{slice_get_within, get_or_from_slice_get}
 use Rattle.std.proofs.lemmas.List.Elements.{All-contains, All-nil, Contains-append_cases, Contains-append_left, Contains-append_right}
 use Rattle.std.proofs.lemmas.Nat.{div-add-mod'}
-use Rattle.std.proofs.lemmas.Nat.Gcd.{dvd_of_mod-eq-zero, IsGcd-from_zero, IsGcd-from_mod}
+use Rattle.std.proofs.lemmas.Nat.Gcd.{dvd_of_mod-eq-zero}
 use Rattle.std.proofs.Math.Nat.{mod-lt, div-mul_cancel}
 use Rattle.std.specs.Int.{◌∣◌, IsGcd}
 use Rattle.ht_word.specs.Words.{◌·◌, root_word, IsLetter, IsWordOf}
@@ -15,7 +15,7 @@ use Rattle.ht_word.specs.declared.word.Word.{Word}
 use Rattle.ht_word.proofs.ListLaws.{Contains-nil, Contains-here, Contains-there, Contains-cons_cases}
 use Rattle.ht_word.proofs.WordLaws.{after_cancel_right, under_refl, word_after, word_rest, ones, All-from_contains}
 use Rattle.ht_num.specs.Numbers.{IsLcm, IsWide}
-use Rattle.ht_num.proofs.NumberLaws.{once_least, least_multiple_none, least_multiple_same, lcm_joins, lcm_from_gcd, wide_multiple}
+use Rattle.ht_num.proofs.NumberLaws.{once_least, least_multiple_none, least_multiple_same, lcm_joins, lcm_exists, wide_multiple}
 use Rattle.ht_pair.specs.Bases.{longest, IsBasis}
 use Rattle.ht_pair.specs.Kinds.{IsCycle, IsCycleWord}
 use Rattle.ht_pair.specs.Orders.{FixesRoots, IsOrder, HasInfiniteOrder, IsPeriodicOrder}
@@ -109,18 +109,6 @@ periodic_more shape p W V x m k j more cycle least joined = least_multiple_same 
   (λ either. elim either [ inl l ↦ (l.0, more.old l.0 l.1, l.2) | inr e ↦ (x, more.new, subst (IsCycle shape p x) (sym e) cycle) ]),
   (λ (y, c, other). elim (more.from y c) [ inl d ↦ inl (y, d, other) | inr e ↦ inr (once_least i m (subst (λ t. IsCycle shape p t i) e other) cycle) ]),
 )) (lcm_joins {P = IsLength shape p W} least joined)
-
--- there is a greatest common divisor
-gcd_exists : (most a b : ℕ) → b ≤ most → (g : ℕ) × IsGcd a b g
-gcd_exists zero a b small = (a, IsGcd-from_zero a b (omega arith))
-gcd_exists (suc most) a b small = elim (cases_eq b 0) [
-  | inl none ↦ (a, IsGcd-from_zero a b none)
-  | inr some ↦ let positive : 1 ≤ b = omega (arith, some) in let g = gcd_exists most b (a % b) (omega (arith, small, mod-lt a positive)) in (g.0, IsGcd-from_mod a b g.0 g.1)
-]
-
--- and a least common multiple
-pub lcm_exists : (a b : ℕ) → 1 ≤ a → 1 ≤ b → (k : ℕ) × IsLcm a b k
-lcm_exists a b one two = let g = gcd_exists b a b (le_refl b) in (a / g.0 * b, lcm_from_gcd a b g.0 one two g.1)
 
 -- the words of a list have a least common multiple of lengths, where it is known of each whether it is a cycle word
 pub periodic_exists : (shape : Shape) (p : List Row) (W : List Word) → ((x : Word) → Contains W x → IsCycleWord shape p x ⊎ ¬ IsCycleWord shape p x) → (k : ℕ) × IsPeriodicOrder shape p W k

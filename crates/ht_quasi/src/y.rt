@@ -29,8 +29,8 @@ pub(crate) fn y_rows(alloc: Global, a: &Element, basis: &Basis) -> Result<Rows, 
     requires { a.now.shape ≡ basis.now.shape }
     ensures { IfOk result (IsYOf basis.now.shape a.now.rows basis.now.words) }
 {
-    let rows = a.rows(alloc)?;
+    a.keeps_limits();
     let kept = kept_rows(alloc, basis)?;
-    let common = full_product(alloc, basis.shape(), kept.as_slice(), rows.as_slice())?;
+    let common = full_product(alloc, basis.shape(), kept.as_slice(), a.as_rows())?;
     full_product(alloc, basis.shape(), common.as_slice(), kept.as_slice())
 }

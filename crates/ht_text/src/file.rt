@@ -41,14 +41,14 @@ pub fn read_file(alloc: Global, bytes: &[u8], shape: Shape) -> Result<Element, F
     }
 }
 
-/// The file of the element's reduced rows. Copies the rows, then one pass over them.
+/// The file of the element's reduced rows. One pass over the rows.
 pub fn write_file(alloc: Global, a: &Element) -> Result<Vec<u8>, NoMemory>
     ensures { IfOk result (λ bytes. bytes.items ≡ file_text a.now.shape.n a.now.shape.r a.now.rows) }
 {
-    let rows = a.rows(alloc)?;
+    a.keeps_limits();
     let mut out = Vec::new(alloc);
-    write_head(a.shape(), rows.len(), &mut out)?;
-    for row in rows.as_slice() {
+    write_head(a.shape(), a.row_count(), &mut out)?;
+    for row in a.as_rows() {
         write_line(row, &mut out)?;
     }
     out.extend_from_slice(b"end\n")?;
