@@ -21,13 +21,13 @@ use Rattle.ht_pair.proofs.BasisLaws.{basis_single, covers_from, some_at, some_tr
 use Rattle.ht_pair.proofs.CarriesLaws.{carries_single, carries_word, carries_extends, carries_rest, carries_itself}
 use Rattle.ht_pair.proofs.MovesLaws.{from_words-turned}
 use Rattle.ht_pair.proofs.Sequences.{in_front_or}
-use Rattle.ht_types.proofs.PeriodicLaws.{cycle_around}
-use Rattle.ht_cycles.specs.Cycles.{Reaches, Meets, ArePicked, IsUnderCycle, AreSeeds, GoesOn, IsOnRound, IsRound, AreRounds}
+use Rattle.ht_types.proofs.PeriodicLaws.{cycle_around, under_cycle_home}
+use Rattle.ht_cycles.specs.Cycles.{Reaches, Meets, ArePicked, IsWordUnderCycle, AreSeeds, GoesOn, IsOnRound, IsRound, AreRounds}
 use Rattle.ht_cycles.specs.MatchedLengths.{AreOfLengths, IsFollowed, MatchLengths}
 use Rattle.ht_cycles.proofs.PickedLaws.{returns_within}
 use Rattle.ht_cycles.proofs.RepresentativeLaws.{not_twice, reaches_then}
 use Rattle.ht_cycles.proofs.RunLaws.{left_at}
-use Rattle.ht_cycles.proofs.SeedLaws.{carried_on, under_carried, goes_on, round_home, under_cycle_below, reached_back, picked_seeds}
+use Rattle.ht_cycles.proofs.SeedLaws.{carried_on, under_carried, goes_on, under_cycle_below, reached_back, picked_seeds}
 
 -- ---- one round
 
@@ -83,7 +83,7 @@ some_round shape f g (suc m) u v go_u go_v =
     (rest.0 ++ row ∷ [], (rest.0, row, refl, rest.1, record { from = (go_u m).1; to = (go_v m).1 }))
 
 -- its `from` words are apart
-round_free : (shape : Shape) (f g : List Row) → IsPair shape f → (X : List Word) → IsSemiNormal shape f X → (m : ℕ) (u v : Word) → IsUnderCycle shape f X m u → (j : ℕ) (rows : List Row) → j ≤ m → IsRound shape f g j u v rows → IsPrefixFree (from_words rows)
+round_free : (shape : Shape) (f g : List Row) → IsPair shape f → (X : List Word) → IsSemiNormal shape f X → (m : ℕ) (u v : Word) → IsWordUnderCycle shape f X u m → (j : ℕ) (rows : List Row) → j ≤ m → IsRound shape f g j u v rows → IsPrefixFree (from_words rows)
 round_free shape f g pair X semi m u v under zero rows l h = subst (λ (t : List Row). IsPrefixFree (from_words t)) (sym h) (AllPairs-nil AreApart)
 round_free shape f g pair X semi m u v under (suc j) rows l h =
     subst IsPrefixFree (sym (ap from_words h.2 ∙ map-append (λ (row : Row). row.from) h.0 (h.1 ∷ [])))
@@ -201,11 +201,11 @@ pub rounds_done : (shape : Shape) (f g : List Row) (m : ℕ) (us vs : List Word)
 rounds_done shape f g m us vs place far = subst (λ A. AreRounds shape f g m A (drop place vs) []) (sym (drop_all place us far)) refl
 
 -- where steps from u lead to a word to which steps lead from a word under r, they lead from u to that word
-joined : (shape : Shape) (f : List Row) → IsPair shape f → (X : List Word) (m i j : ℕ) (u w r : Word) → IsUnderCycle shape f X m r → Carries shape f (pos i) u w → Carries shape f (pos j) r w → Reaches shape f u r
+joined : (shape : Shape) (f : List Row) → IsPair shape f → (X : List Word) (m i j : ℕ) (u w r : Word) → IsWordUnderCycle shape f X r m → Carries shape f (pos i) u w → Carries shape f (pos j) r w → Reaches shape f u r
 joined shape f pair X m i j u w r under a b = reaches_then shape f pair u w r (record { steps = i; carries = a }) (reached_back shape f pair X m r w under (record { steps = j; carries = b }))
 
 -- the rounds of words that never meet are apart
-rounds_apart : (shape : Shape) (f : List Row) → IsPair shape f → (X : List Word) (m i j : ℕ) (u r w y : Word) → IsUnderCycle shape f X m u → IsUnderCycle shape f X m r → ¬ Meets shape f u r → Carries shape f (pos i) u w → Carries shape f (pos j) r y → AreApart w y
+rounds_apart : (shape : Shape) (f : List Row) → IsPair shape f → (X : List Word) (m i j : ℕ) (u r w y : Word) → IsWordUnderCycle shape f X u m → IsWordUnderCycle shape f X r m → ¬ Meets shape f u r → Carries shape f (pos i) u w → Carries shape f (pos j) r y → AreApart w y
 rounds_apart shape f pair X m i j u r w y under_u under_r apart a b = (
   λ below.
       let z = below.rest in
@@ -222,7 +222,7 @@ rounds_apart shape f pair X m i j u r w y under_u under_r apart a b = (
 )
 
 -- so the `from` words are
-rounds_free : (shape : Shape) (f g : List Row) → IsPair shape f → (X : List Word) → IsSemiNormal shape f X → (m : ℕ) (us vs : List Word) (rows : List Row) → ((u : Word) → Contains us u → IsUnderCycle shape f X m u) → AllPairs (λ r s. ¬ Meets shape f r s) us → AreRounds shape f g m us vs rows → IsPrefixFree (from_words rows)
+rounds_free : (shape : Shape) (f g : List Row) → IsPair shape f → (X : List Word) → IsSemiNormal shape f X → (m : ℕ) (us vs : List Word) (rows : List Row) → ((u : Word) → Contains us u → IsWordUnderCycle shape f X u m) → AllPairs (λ r s. ¬ Meets shape f r s) us → AreRounds shape f g m us vs rows → IsPrefixFree (from_words rows)
 rounds_free shape f g pair X semi m [] vs rows under apart h = subst (λ (t : List Row). IsPrefixFree (from_words t)) (sym h) (AllPairs-nil AreApart)
 rounds_free shape f g pair X semi m (u ∷ us) [] rows under apart h = subst (λ (t : List Row). IsPrefixFree (from_words t)) (sym h) (AllPairs-nil AreApart)
 rounds_free shape f g pair X semi m (u ∷ us) (v ∷ vs) rows under apart h =
@@ -278,7 +278,7 @@ has_cycle_words shape f pair X semi m R picked =
     }
 
 -- a `from` word is under a word of a cycle of length m
-rounds_under : (shape : Shape) (f g : List Row) → IsPair shape f → (X : List Word) → IsSemiNormal shape f X → (m : ℕ) (us vs : List Word) (rows : List Row) → AreSeeds shape f X m us → AreRounds shape f g m us vs rows → (w : Word) → Contains (from_words rows) w → IsUnderCycle shape f X m w
+rounds_under : (shape : Shape) (f g : List Row) → IsPair shape f → (X : List Word) → IsSemiNormal shape f X → (m : ℕ) (us vs : List Word) (rows : List Row) → AreSeeds shape f X m us → AreRounds shape f g m us vs rows → (w : Word) → Contains (from_words rows) w → IsWordUnderCycle shape f X w m
 rounds_under shape f g pair X semi m us vs rows seeds h w c =
     let row = contained_in_map (λ (row : Row). row.from) rows w c in
     let of = rounds_of shape f g m us vs rows h row.0 row.1 in
@@ -302,7 +302,7 @@ rounds_side shape f g pair X semi m us vs rows same seeds h P are =
             λ s.
                 let of = are.listed s.above s.listed in
                 let cycle = subst (IsCycle shape f s.above) of.2 of.3 in
-                let below : IsUnderCycle shape f X m u = record { word = word; above = s.above; listed = of.0; cycle = cycle; under = s.under } in
+                let below : IsWordUnderCycle shape f X u m = record { word = word; under_cycle = record { above = s.above; listed = of.0; cycle = cycle; under = s.under } } in
                 let r = seeds.all u below l in
                 let z = r.under.rest in
                 let here = seeds.under r.above r.listed in
@@ -311,13 +311,13 @@ rounds_side shape f g pair X semi m us vs rows same seeds h P are =
                 let on = goes_on shape f pair X semi m r.above here r.reaches.steps in
                 let row = rounds_at shape f g m us vs rows same h r.above r.listed k (omega (arith, mod-lt r.reaches.steps cycle.positive)) in
                 let there : u ≡ on.0 · z = carries_single shape f pair (pos r.reaches.steps) r.from u (on.0 · z) r.reaches.carries (subst (λ t. Carries shape f (pos r.reaches.steps) t (on.0 · z)) (sym r.under.is) (carries_extends shape f (pos r.reaches.steps) r.above on.0 z hz on.1)) in
-                let is : row.0.from ≡ on.0 = carries_single shape f pair (pos k) r.above row.0.from on.0 row.2 (returns_within shape f pair r.above on.0 m r.reaches.steps (round_home shape f X m r.above here) on.1) in
+                let is : row.0.from ≡ on.0 = carries_single shape f pair (pos k) r.above row.0.from on.0 row.2 (returns_within shape f pair r.above on.0 m r.reaches.steps (under_cycle_home shape f X r.above m here.word here.under_cycle) on.1) in
                 some_at W row.0.from u (Contains-map (λ (row : Row). row.from) rows row.0 row.1) (record { rest = z; is = there ∙ ap (λ t. t · z) (sym is) }),
           ));
       under = under;
     }
   where
-    at : (w : Word) → Contains (from_words rows) w → IsUnderCycle shape f X m w
+    at : (w : Word) → Contains (from_words rows) w → IsWordUnderCycle shape f X w m
     at w c = rounds_under shape f g pair X semi m us vs rows seeds h w c
 
     under : (w : Word) → Contains (from_words rows) w → IsUnderSome w P
@@ -335,8 +335,10 @@ rounds_follow shape f g pair_f pair_g X Y m us vs rows seeds_f seeds_g h row c =
           record { next = next.0; listed = next.1; from = step f pair_f of.first row.from next.0.from of.on.from next.2.from; to = step g pair_g of.second row.to next.0.to of.on.to next.2.to }
       | inr e ↦
           let next = of.round 0 (omega (arith, of.low)) in
-          let home_f = round_home shape f X m of.first (seeds_f.under of.first of.first_listed) in
-          let home_g = round_home shape g Y m of.second (seeds_g.under of.second of.second_listed) in
+          let under_f = seeds_f.under of.first of.first_listed in
+          let under_g = seeds_g.under of.second of.second_listed in
+          let home_f = under_cycle_home shape f X of.first m under_f.word under_f.under_cycle in
+          let home_g = under_cycle_home shape g Y of.second m under_g.word under_g.under_cycle in
           let is_f : of.first ≡ next.0.from = carries_single shape f pair_f (pos 0) of.first of.first next.0.from (carries_itself shape f of.first home_f.word) next.2.from in
           let is_g : of.second ≡ next.0.to = carries_single shape g pair_g (pos 0) of.second of.second next.0.to (carries_itself shape g of.second home_g.word) next.2.to in
           record {

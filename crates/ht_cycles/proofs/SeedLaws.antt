@@ -19,8 +19,8 @@ use Rattle.ht_pair.proofs.BasisLaws.{basis_single, basis_word, longest_bounds, c
 use Rattle.ht_pair.proofs.CarriesLaws.{carries_single, carries_word, carries_extends}
 use Rattle.ht_pair.proofs.Sequences.{length-each}
 use Rattle.ht_quasi.proofs.RoundLaws.{something_at}
-use Rattle.ht_types.proofs.PeriodicLaws.{cycle_around}
-use Rattle.ht_cycles.specs.Cycles.{Reaches, Meets, ArePicked, IsUnderCycle, AreSeeds}
+use Rattle.ht_types.proofs.PeriodicLaws.{under_cycle_moved, under_cycle_home}
+use Rattle.ht_cycles.specs.Cycles.{Reaches, Meets, ArePicked, IsWordUnderCycle, AreSeeds}
 use Rattle.ht_cycles.proofs.RepresentativeLaws.{reaches_back}
 use Rattle.ht_cycles.proofs.RunLaws.{left_at}
 
@@ -33,51 +33,39 @@ pub record IsCarriedOn (shape : Shape) (f : List Row) (X : List Word) (m k : ℕ
   pub is : v ≡ next · rest
   pub word : IsWordOf shape v
 
-pub carried_on : (shape : Shape) (f : List Row) → IsPair shape f → (X : List Word) → IsSemiNormal shape f X → (m k : ℕ) (u v : Word) → (under : IsUnderCycle shape f X m u) → Carries shape f (pos k) u v → IsCarriedOn shape f X m k u under.above under.under.rest v
+pub carried_on : (shape : Shape) (f : List Row) → IsPair shape f → (X : List Word) → IsSemiNormal shape f X → (m k : ℕ) (u v : Word) → (under : IsWordUnderCycle shape f X u m) → Carries shape f (pos k) u v → IsCarriedOn shape f X m k u under.above under.under.rest v
 carried_on shape f pair X semi m k u v under carries =
-    let z = under.under.rest in
-    let hz = word_rest shape under.above z (subst (IsWordOf shape) under.under.is under.word) in
-    let next = cycle_around shape f pair X semi (pos k) under.above m under.listed under.cycle in
+    let there = under_cycle_moved shape f pair X semi (pos k) u m under.word under.under_cycle in
+    let next = there.0 in
     record {
       next = next.word;
       listed = next.listed;
       cycle = next.cycle;
       carries = next.carries;
-      is = carries_single shape f pair (pos k) u v (next.word · z) carries (subst (λ t. Carries shape f (pos k) t (next.word · z)) (sym under.under.is) (carries_extends shape f (pos k) under.above next.word z hz next.carries));
+      is = carries_single shape f pair (pos k) u v (next.word · under.under.rest) carries there.1;
       word = carries_word shape f pair (pos k) u v carries;
     }
 
 -- so that one is under a word of a cycle of length m
-pub under_carried : (shape : Shape) (f : List Row) → IsPair shape f → (X : List Word) → IsSemiNormal shape f X → (m k : ℕ) (u v : Word) → IsUnderCycle shape f X m u → Carries shape f (pos k) u v → IsUnderCycle shape f X m v
+pub under_carried : (shape : Shape) (f : List Row) → IsPair shape f → (X : List Word) → IsSemiNormal shape f X → (m k : ℕ) (u v : Word) → IsWordUnderCycle shape f X u m → Carries shape f (pos k) u v → IsWordUnderCycle shape f X v m
 under_carried shape f pair X semi m k u v under carries =
     let on = carried_on shape f pair X semi m k u v under carries in
-    record { word = on.word; above = on.next; listed = on.listed; cycle = on.cycle; under = record { rest = under.under.rest; is = on.is } }
+    record { word = on.word; under_cycle = record { above = on.next; listed = on.listed; cycle = on.cycle; under = record { rest = under.under.rest; is = on.is } } }
 
 -- each power from 0 on carries such a word to a word
-pub goes_on : (shape : Shape) (f : List Row) → IsPair shape f → (X : List Word) → IsSemiNormal shape f X → (m : ℕ) (u : Word) → IsUnderCycle shape f X m u → (k : ℕ) → (v : Word) × Carries shape f (pos k) u v
-goes_on shape f pair X semi m u under k =
-    let z = under.under.rest in
-    let hz = word_rest shape under.above z (subst (IsWordOf shape) under.under.is under.word) in
-    let next = cycle_around shape f pair X semi (pos k) under.above m under.listed under.cycle in
-    (next.word · z, subst (λ t. Carries shape f (pos k) t (next.word · z)) (sym under.under.is) (carries_extends shape f (pos k) under.above next.word z hz next.carries))
-
--- m steps lead back to it
-pub round_home : (shape : Shape) (f : List Row) (X : List Word) (m : ℕ) (u : Word) → IsUnderCycle shape f X m u → Carries shape f (pos m) u u
-round_home shape f X m u under =
-    let z = under.under.rest in
-    let hz = word_rest shape under.above z (subst (IsWordOf shape) under.under.is under.word) in
-    subst (λ t. Carries shape f (pos m) t t) (sym under.under.is) (carries_extends shape f (pos m) under.above under.above z hz under.cycle.holds)
+pub goes_on : (shape : Shape) (f : List Row) → IsPair shape f → (X : List Word) → IsSemiNormal shape f X → (m : ℕ) (u : Word) → IsWordUnderCycle shape f X u m → (k : ℕ) → (v : Word) × Carries shape f (pos k) u v
+goes_on shape f pair X semi m u under k = let there = under_cycle_moved shape f pair X semi (pos k) u m under.word under.under_cycle in (there.0.word · under.under.rest, there.1)
 
 -- a word of the shape under such a word is one
-abbrev pub under_cycle_below : (shape : Shape) (f : List Row) (X : List Word) (m : ℕ) (u v : Word) → IsWordOf shape v → IsUnder v u → IsUnderCycle shape f X m u → IsUnderCycle shape f X m v
-under_cycle_below shape f X m u v word below under = record { word = word; above = under.above; listed = under.listed; cycle = under.cycle; under = under_trans below under.under }
+abbrev pub under_cycle_below : (shape : Shape) (f : List Row) (X : List Word) (m : ℕ) (u v : Word) → IsWordOf shape v → IsUnder v u → IsWordUnderCycle shape f X u m → IsWordUnderCycle shape f X v m
+under_cycle_below shape f X m u v word below under = record { word = word; under_cycle = record { above = under.above; listed = under.listed; cycle = under.cycle; under = under_trans below under.under } }
 
 -- reaching such a word is reaching back from it
-pub reached_back : (shape : Shape) (f : List Row) → IsPair shape f → (X : List Word) (m : ℕ) (u v : Word) → IsUnderCycle shape f X m u → Reaches shape f u v → Reaches shape f v u
-reached_back shape f pair X m u v under reaches = reaches_back shape f pair m u v under.cycle.positive (round_home shape f X m u under) reaches
+pub reached_back : (shape : Shape) (f : List Row) → IsPair shape f → (X : List Word) (m : ℕ) (u v : Word) → IsWordUnderCycle shape f X u m → Reaches shape f u v → Reaches shape f v u
+reached_back shape f pair X m u v under reaches = reaches_back shape f pair m u v under.cycle.positive (under_cycle_home shape f X u m under.word under.under_cycle) reaches
 
 -- steps from a word under such a word to one under it lead back to where they began
-pub same_again : (shape : Shape) (f : List Row) → IsPair shape f → (X : List Word) → IsSemiNormal shape f X → (m : ℕ) (x u v : Word) → IsUnderCycle shape f X m x → IsUnder u x → IsUnder v x → Reaches shape f u v → u ≡ v
+pub same_again : (shape : Shape) (f : List Row) → IsPair shape f → (X : List Word) → IsSemiNormal shape f X → (m : ℕ) (x u v : Word) → IsWordUnderCycle shape f X x m → IsUnder u x → IsUnder v x → Reaches shape f u v → u ≡ v
 same_again shape f pair X semi m x u v under at_u at_v reaches =
     let h : IsUnder u under.above = under_trans at_u under.under in
     let on = carried_on shape f pair X semi m reaches.steps u v (under_cycle_below shape f X m x u reaches.carries.word at_u under) reaches.carries in
@@ -109,8 +97,8 @@ picked_seeds shape f pair X semi m R picked = record {
       };
 }
   where
-    under : (r : Word) → Contains R r → IsUnderCycle shape f X m r
-    under r c = let h = picked.listed r c in record { word = basis_word shape X semi.basis r h.0; above = r; listed = h.0; cycle = h.1; under = under_refl r }
+    under : (r : Word) → Contains R r → IsWordUnderCycle shape f X r m
+    under r c = let h = picked.listed r c in record { word = basis_word shape X semi.basis r h.0; under_cycle = record { above = r; listed = h.0; cycle = h.1; under = under_refl r } }
 
 -- ---- expansions
 

@@ -9,6 +9,7 @@
 --     IsGrouped groups m word new           the word is added to the group of length m
 --     ArePicked shape f X m R               R has one word of X of each cycle of length m
 --     ArePickedBefore shape f X k marks groups   so have the groups of the cycles that the first k words of X are in, whose words are marked
+--     IsWordUnderCycle shape f X u m        u is a word of the shape under a word of X of a cycle of length m
 --     AreSeeds shape f X m R                words under such words that never meet; each long word under one of length m is reached from one
 --     GoesOn shape f u                      each power from 0 on carries u to a word
 --     IsRound shape f g m u v rows          the rows from what i steps of f carry u to, to what i steps of g carry v to, for i below m
@@ -21,6 +22,7 @@ use Rattle.ht_pair.specs.declared.row.Row.{Row}
 use Rattle.ht_pair.specs.Kinds.{IsCycle}
 use Rattle.ht_pair.specs.Steps.{Carries}
 use Rattle.ht_quasi.specs.Rounds.{IsMarked}
+use Rattle.ht_types.specs.CycleWords.{IsUnderCycle}
 
 pub record Reaches (shape : Shape) (g : List Row) (u v : Word) : Type 0 where
   pub steps : ℕ
@@ -69,13 +71,10 @@ pub record ArePickedBefore (shape : Shape) (f : List Row) (X : List Word) (k : �
   pub marked : (place : ℕ) (x : Word) → slice_get X place ≡ Some x → IsMarked marks place → (m : ℕ) × (r : Word) × Contains (group groups m) r × Reaches shape f r x
   pub reached : (place m : ℕ) (r x : Word) → slice_get X place ≡ Some x → Contains (group groups m) r → Reaches shape f r x → IsMarked marks place
 
--- a word of the shape under a word of X of a cycle of length m
-pub record IsUnderCycle (shape : Shape) (f : List Row) (X : List Word) (m : ℕ) (u : Word) : Type 0 where
+pub record IsWordUnderCycle (shape : Shape) (f : List Row) (X : List Word) (u : Word) (m : ℕ) : Type 0 where
   pub word : IsWordOf shape u
-  pub above : Word
-  pub listed : Contains X above
-  pub cycle : IsCycle shape f above m
-  pub under : IsUnder u above
+  pub under_cycle : IsUnderCycle shape f X u m
+  pub open under_cycle use *
 
 -- some steps lead from a word under one of R to u
 pub record IsReachedFrom (shape : Shape) (f : List Row) (R : List Word) (u : Word) : Type 0 where
@@ -86,10 +85,10 @@ pub record IsReachedFrom (shape : Shape) (f : List Row) (R : List Word) (u : Wor
   pub reaches : Reaches shape f from u
 
 pub record AreSeeds (shape : Shape) (f : List Row) (X : List Word) (m : ℕ) (R : List Word) : Type 0 where
-  pub under : (r : Word) → Contains R r → IsUnderCycle shape f X m r
+  pub under : (r : Word) → Contains R r → IsWordUnderCycle shape f X r m
   pub apart : AllPairs (λ r s. ¬ Meets shape f r s) R
   pub bound : ℕ
-  pub all : (u : Word) → IsUnderCycle shape f X m u → bound ≤ length u.letters → IsReachedFrom shape f R u
+  pub all : (u : Word) → IsWordUnderCycle shape f X u m → bound ≤ length u.letters → IsReachedFrom shape f R u
 
 abbrev pub GoesOn : Shape → List Row → Word → Type 0
 GoesOn shape f u = (k : ℕ) → (v : Word) × Carries shape f (pos k) u v

@@ -1,22 +1,22 @@
 -- Walks ahead that flow under an attractor, and those that stop before.
-use Rattle.std.proofs.Common.{◌≡◌, ℕ, ◌<◌, ◌⊎◌, inl, inr, List, length, refl, subst, arith, pos, ◌^◌}
+use Rattle.std.proofs.Common.{◌≡◌, ℕ, ◌+◌, ◌<◌, ◌⊎◌, inl, inr, List, length, refl, subst, arith, pos, ◌^◌}
 use Rattle.std.proofs.lemmas.Bool.{cases_lt}
 use Rattle.ht_word.specs.Words.{◌·◌, IsLetters}
 use Rattle.ht_word.specs.declared.shape.Shape.{Shape}
 use Rattle.ht_word.specs.declared.word.Word.{Word}
 use Rattle.ht_word.proofs.WordLaws.{under_after, under_trans}
 use Rattle.ht_pair.specs.Kinds.{IsAttractorWord}
+use Rattle.ht_pair.specs.Reaches.{CarriesUnderSuch}
 use Rattle.ht_pair.specs.SemiNormal.{CarriesUnder}
-use Rattle.ht_pair.specs.Steps.{Carries}
 use Rattle.ht_pair.specs.declared.row.Row.{Row}
-use Rattle.ht_pair.proofs.BasisLaws.{basis_single, some_at}
-use Rattle.ht_pair.proofs.CarriesLaws.{carries_single, carries_extends}
+use Rattle.ht_pair.proofs.BasisLaws.{some_at}
+use Rattle.ht_pair.proofs.CarriesLaws.{carries_extends}
 use Rattle.ht_quasi.proofs.StepLaws.{listed_at}
 use Rattle.ht_types.specs.Flows.{IsWalk, IsWholeWalk, IsUnderInfinite}
 use Rattle.ht_types.specs.TypedElements.{TypedValue, IsTyped}
 use Rattle.ht_types.specs.declared.direction.Direction.TheVariants.{Ahead}
 use Rattle.ht_types.specs.declared.walk.Walk.{Walk}
-use Rattle.ht_types.proofs.OnwardLaws.{stays_on, early_under, walk_bound}
+use Rattle.ht_types.proofs.OnwardLaws.{such_above, sooner_under, early_under, walk_bound}
 use Rattle.ht_types.proofs.StopLaws.{few_steps, few_words}
 use Rattle.ht_types.proofs.TurnLaws.{HasSemiNormal}
 use Rattle.ht_flow.specs.Flowing.{FlowsUnder, IsStuck}
@@ -62,13 +62,10 @@ walk_stuck {shape} {p} {X} h u walk w open_end =
       under = some_at X x (x · walk.rest) listed (under_after x walk.rest);
       stops = stops;
       never = λ f. elim (cases_lt k f.steps) [
-        | inl less ↦ stops (stays_on shape p h.pair X k f.steps (omega arith) u (x · walk.rest) w.walked.carries f.under 1 (omega arith))
+        | inl less ↦ stops (sooner_under shape p h.pair X k 1 (k + 1) refl u (x · walk.rest) w.walked.carries (f.under (k + 1) (omega arith)))
         | inr other ↦ elim (cases_lt f.steps k) [
           | inl early ↦ w.walked.before f.steps f.to early f.reached
-          | inr late ↦
-              let there = subst (λ j. Carries shape p (pos j) u f.to) (let e : f.steps ≡ k = omega arith in e) f.reached.carries in
-              let is = carries_single shape p h.pair (pos k) u f.to (x · walk.rest) there w.walked.carries in
-              open_end (subst (IsAttractorWord shape p) (basis_single shape X h.semi.basis f.to f.reached.above x f.reached.listed listed f.reached.under (record { rest = walk.rest; is = is })) f.reached.such)
+          | inr late ↦ open_end (such_above h (pos k) u x f.to walk.rest listed w.walked.carries (subst (λ j. CarriesUnderSuch shape p (IsAttractorWord shape p) X (pos j) u f.to) (let e : f.steps ≡ k = omega arith in e) f.reached))
         ]
       ];
     }

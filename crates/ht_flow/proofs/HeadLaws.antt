@@ -5,19 +5,20 @@ use Rattle.std.proofs.lemmas.Bool.{cases_lt}
 use Rattle.std.proofs.lemmas.Int.{ints}
 use Rattle.std.proofs.lemmas.List.{length-append}
 use Rattle.std.proofs.lemmas.Option.{get_or_from_slice_get, slice_get_within}
-use Rattle.ht_word.specs.Words.{◌·◌, word_cmp, IsAscending, IsUnder}
+use Rattle.ht_word.specs.Words.{◌·◌, word_cmp, IsAscending}
 use Rattle.ht_word.specs.declared.shape.Shape.{Shape}
 use Rattle.ht_word.specs.declared.word.Word.{Word}
-use Rattle.ht_word.proofs.WordLaws.{after-append, after-nil, under_after, under_refl, word_cmp_once, word_rest}
+use Rattle.ht_word.proofs.WordLaws.{after-append, after-nil, under_after, word_cmp_once, word_rest}
 use Rattle.ht_pair.specs.SemiNormal.{CarriesUnder}
 use Rattle.ht_pair.specs.Steps.{Carries}
 use Rattle.ht_pair.specs.declared.row.Row.{Row}
-use Rattle.ht_pair.proofs.BasisLaws.{basis_single, basis_word, prefix_free_place}
+use Rattle.ht_pair.proofs.BasisLaws.{basis_single, basis_word}
 use Rattle.ht_pair.proofs.CarriesLaws.{carries_single, carries_word, carries_extends, carries_rest, carries_sum, carries_itself}
 use Rattle.ht_quasi.proofs.StepLaws.{listed_at, same_at}
 use Rattle.ht_pair.specs.Elements.{ElementValue}
 use Rattle.ht_types.specs.WordSteps.{HasStep}
 use Rattle.ht_types.specs.declared.step.Step.{Step}
+use Rattle.ht_types.proofs.CourseLaws.{same_place}
 use Rattle.ht_types.proofs.PeriodicLaws.{carried_further}
 use Rattle.ht_types.proofs.TurnLaws.{HasSemiNormal}
 use Rattle.ht_flow.specs.Rounds.{IsAttractorAt, IsStage, IsNextStage, IsHead, IsSooner}
@@ -64,7 +65,7 @@ stage_on {shape} {p} {X} h a stage next s n =
 one_place : {shape : Shape} {p : List Row} {X : List Word} → HasSemiNormal shape p X → (i j : ℕ) (x y : Word) (c d : List ℕ) → slice_get X i ≡ Some x → slice_get X j ≡ Some y → x · c ≡ y · d → i ≡ j
 one_place {shape} {p} {X} h i j x y c d here there e =
     let one = basis_single shape X h.semi.basis (x · c) x y (listed_at X i x here) (listed_at X j y there) (under_after x c) (record { rest = d; is = e }) in
-    prefix_free_place X h.semi.basis.prefix_free x y (i, slice_get_within X i x here, get_or_from_slice_get X i x x here) (j, slice_get_within X j y there, get_or_from_slice_get X j y y there) (subst (λ t. IsUnder x t) one (under_refl x))
+    same_place X h.semi.basis.prefix_free i j x y here there one
 
 -- the attractor itself, after no steps
 pub head_begins : {shape : Shape} {p : List Row} {X : List Word} → HasSemiNormal shape p X → (a : Word) (stage : Stage) → slice_get X stage.at ≡ Some a → stage.steps ≡ 0 → stage.letters ≡ 0 → IsHead shape p X a 1 stage

@@ -36,8 +36,8 @@ pub enum Flowed {
 /// Where a word under the infinite part flows (this project's own): to its address exactly where
 /// some power from 0 on carries it under an attractor, and all powers from 0 to that one carry it
 /// under the basis. The steps are fewer than 2^121 in absolute value. At most N(l + 1) steps for N words
-/// of the basis and l letters, and then one round of the attractor, at most N steps, each of two binary
-/// searches, and one pass over the letters.
+/// of the basis and l letters, and then one round of the attractor, at most N steps, each a look-up or two
+/// binary searches, and one pass over the letters.
 pub fn flow(alloc: Global, t: &Typed, word: &Word) -> Result<Flowed, NoMemory>
     requires word { IsWordOf t.now.element.shape word.now }
     requires infinite { IsUnderInfinite t.now.element.shape t.now.element.rows t.now.quasi.basis.words word.now }

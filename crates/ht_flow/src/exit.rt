@@ -10,7 +10,7 @@ use std::alloc::Global;
 
 /// Letters behind a word under the infinite part such that the word with them, and each word under
 /// that, flows to an address (this project's own). At most N(l + 2) steps for N words of the basis
-/// and l letters, each of two binary searches.
+/// and l letters, each a look-up or two binary searches.
 pub fn exit_word(alloc: Global, t: &Typed, word: &Word) -> Result<Letters, NoMemory>
     requires word { IsWordOf t.now.element.shape word.now }
     requires infinite { IsUnderInfinite t.now.element.shape t.now.element.rows t.now.quasi.basis.words word.now }

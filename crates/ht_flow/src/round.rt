@@ -7,7 +7,7 @@ ghost use Rattle.ht_pair.specs.SemiNormal.{CarriesUnder};
 ghost use Rattle.ht_pair.specs.Steps.{Carries};
 ghost use Rattle.ht_flow.specs.Rounds.{IsAttractorAt, IsNextStage, IsHead, IsSooner};
 
-use ht_types::{Step, Typed, Walk, next_of};
+use ht_types::{Direction, Step, Typed, Walk, next_of};
 use ht_word::{Letters, NoMemory};
 use std::alloc::Global;
 
@@ -47,7 +47,7 @@ pub(crate) fn head_of(
     Ok(head)
 }
 
-// One step on: two binary searches.
+// One step on: a look-up.
 fn next_stage(alloc: Global, t: &Typed, stage: Stage) -> Result<Stage, NoMemory>
     requires place { stage.at < length t.now.quasi.basis.words }
     requires ahead { (x : Word) → slice_get t.now.quasi.basis.words stage.at ≡ Some x → CarriesUnder t.now.element.shape t.now.element.rows (pos 1) x t.now.quasi.basis.words }
@@ -60,7 +60,7 @@ fn next_stage(alloc: Global, t: &Typed, stage: Stage) -> Result<Stage, NoMemory>
         to: stage.at,
         rest: Letters::new(alloc),
     };
-    let Step::Leads { to, rest } = next_of(alloc, t, t.element(), &top)? else {
+    let Step::Leads { to, rest } = next_of(alloc, t, t.element(), Direction::Ahead, &top)? else {
         unreachable!()
     };
     Ok(Stage {

@@ -19,7 +19,7 @@ use Rattle.ht_pair.proofs.BadChainLaws.{strict_ends}
 use Rattle.ht_pair.proofs.BasisLaws.{prefix_free_place, some_at, basis_single, basis_word}
 use Rattle.ht_pair.proofs.CarriesLaws.{carries_single, carries_word, carries_extends, carries_back, carries_rest, carries_sum, carries_itself}
 use Rattle.ht_quasi.proofs.RoundLaws.{something_at}
-use Rattle.ht_quasi.proofs.StepLaws.{listed_at}
+use Rattle.ht_quasi.proofs.StepLaws.{listed_at, same_at}
 use Rattle.ht_types.specs.Courses.{Goes, IsRound, Turns, EndsFrom, JoinsFirst}
 use Rattle.ht_types.specs.WordKinds.{LeadsAhead}
 use Rattle.ht_types.specs.WordSteps.{HasStep, AreSteps}
@@ -27,6 +27,7 @@ use Rattle.ht_types.specs.declared.kind.Reach.{Reach}
 use Rattle.ht_types.specs.declared.step.Step.{Step}
 use Rattle.ht_types.specs.declared.step.Step.TheVariants.{Splits, Leads}
 use Rattle.ht_types.proofs.GoesLaws.{CanGo, turns_on, first_round}
+use Rattle.ht_types.proofs.OnwardLaws.{such_above}
 use Rattle.ht_types.proofs.PathLaws.{goes_none, no_steps, goes_next, first_step, goes_front, turns_by}
 
 -- a semi-normal basis of a pair, with the steps of its words
@@ -153,7 +154,7 @@ turns_stays {shape} {p} {X} {steps} h k x y z u here g turns = λ j.
 -- ---- words that are carried back
 
 -- a word is at one place of a basis
-same_place : (X : List Word) → IsPrefixFree X → (x y : ℕ) (u v : Word) → slice_get X x ≡ Some u → slice_get X y ≡ Some v → u ≡ v → x ≡ y
+pub same_place : (X : List Word) → IsPrefixFree X → (x y : ℕ) (u v : Word) → slice_get X x ≡ Some u → slice_get X y ≡ Some v → u ≡ v → x ≡ y
 same_place X free x y u v here there e =
     prefix_free_place X free u v (x, slice_get_within X x u here, get_or_from_slice_get X x u u here) (y, slice_get_within X y v there, get_or_from_slice_get X y v v there) (subst (IsUnder u) e (under_refl u))
 
@@ -190,7 +191,7 @@ no_attractor h x u here none = λ a. none (carried_turns h a.0 x a.1 u here a.2.
 pub returns_cycle : {shape : Shape} {p : List Row} {X : List Word} {steps : List Step} → IsStepped shape p X steps → (x m : ℕ) (z : List ℕ) (u : Word) → slice_get X x ≡ Some u → IsLeastPositive (IsRound steps x) m → Goes steps m x x z → z ≡ [] → IsCycle shape p u m
 returns_cycle {shape} {p} {X} {steps} h x m z u here first g e =
     let t = goes_carries h m x x z u here g in
-    let same : t.above ≡ u = (let k : Some t.above ≡ Some u = sym t.here ∙ here in cc) in
+    let same : t.above ≡ u = same_at X X x t.above u refl t.here here in
     record {
       positive = first.positive;
       holds = subst (Carries shape p (pos m) u) same (carries_exactly shape p m u t.above z e t.carries);
@@ -201,7 +202,7 @@ returns_cycle {shape} {p} {X} {steps} h x m z u here first g e =
 pub returns_attractor : {shape : Shape} {p : List Row} {X : List Word} {steps : List Step} → IsStepped shape p X steps → (x m : ℕ) (z : List ℕ) (u : Word) → slice_get X x ≡ Some u → IsLeastPositive (IsRound steps x) m → Goes steps m x x z → z ≢ [] → IsAttractor shape p u m z
 returns_attractor {shape} {p} {X} {steps} h x m z u here first g some =
     let t = goes_carries h m x x z u here g in
-    let same : t.above ≡ u = (let k : Some t.above ≡ Some u = sym t.here ∙ here in cc) in
+    let same : t.above ≡ u = same_at X X x t.above u refl t.here here in
     let lengthens : Lengthens shape p (pos m) u z = (some, subst (λ w. Carries shape p (pos m) u (w · z)) same t.carries) in
     record {
       lengthens = lengthens;
@@ -230,9 +231,7 @@ none_before : {shape : Shape} {p : List Row} {X : List Word} {steps : List Step}
 none_before {shape} {p} {X} {steps} h x u reach here joins j w high s =
     let c = goes_front steps j reach.steps x reach.to reach.rest (omega arith) joins.goes in
     let t = goes_carries h j x c.mid c.rest u here c.first in
-    let is : w ≡ t.above · c.rest = carries_single shape p h.pair (pos j) u w (t.above · c.rest) s.carries t.carries in
-    let same : s.above ≡ t.above = basis_single shape X h.semi.basis w s.above t.above s.listed (listed_at X c.mid t.above t.here) s.under (record { rest = c.rest; is = is }) in
-    let a : IsAttractorWord shape p t.above = subst (IsAttractorWord shape p) same s.such in
+    let a = such_above (record { pair = h.pair; semi = h.semi }) (pos j) u t.above w c.rest (listed_at X c.mid t.above t.here) t.carries s in
     joins.first j c.mid c.rest high c.first (carried_turns h a.0 c.mid a.1 t.above t.here a.2.first.positive a.2.lengthens.1)
 
 -- where the steps join a round, the word is first carried under an attractor

@@ -18,7 +18,7 @@ use Rattle.ht_pair.specs.Steps.{Carries}
 use Rattle.ht_pair.specs.declared.row.Row.{Row}
 use Rattle.ht_pair.proofs.BasisLaws.{basis_single}
 use Rattle.ht_pair.proofs.CarriesLaws.{carries_none, carries_word, carries_extends}
-use Rattle.ht_quasi.proofs.StepLaws.{listed_at}
+use Rattle.ht_quasi.proofs.StepLaws.{listed_at, same_at}
 use Rattle.ht_types.specs.Flows.{LeadsIn, IsEndKind, IsUnderInfinite, IsWalk, IsWholeWalk, IsFurther, LeadsAway, IsExit}
 use Rattle.ht_types.specs.TypedElements.{TypedValue, IsTyped}
 use Rattle.ht_types.specs.declared.direction.Direction.{Direction}
@@ -151,7 +151,7 @@ exit_left {shape} {p} {X} h word x z letters walk a more infinite e on ha away =
 pub exit_more : (direction : Direction) (shape : Shape) (p q : List Row) (X : List Word) → IsDirected direction shape p q X → (word x : Word) (z letters longer : List ℕ) (walk next : Walk) (a : ℕ) → IsInfiniteWord shape q X x → word ≡ x · z → (on : IsOnExit shape q X word letters walk) → ¬ IsAttractorWord shape q on.above → IsLetter shape a
     → ((m : ℕ) (by : List ℕ) → IsRepeller shape q on.above m by → slice_get by (length walk.rest) ≢ Some a) → longer ≡ letters ++ (a ∷ []) → IsFurther shape p X direction walk a next → IsOnExit shape q X word longer next
 exit_more direction shape p q X d word x z letters longer walk next a infinite e on open_end ha other is f =
-    let same : f.above ≡ on.above = (let k : Some f.above ≡ Some on.above = sym f.here ∙ on.walked.here in cc) in
+    let same : f.above ≡ on.above = same_at X X walk.to f.above on.above refl f.here on.walked.here in
     let m = walk_out direction shape p q X d (child (f.above · walk.rest) a) f.whole.above f.more f.whole.walked in
     let hw = carries_word shape q d.base.pair (pos walk.steps) (word · letters) (on.above · walk.rest) on.walked.carries in
     let away = away_made d.base on.above walk.rest a (listed_at X walk.to on.above on.walked.here) hw (stuck on.stops) other in
@@ -200,7 +200,7 @@ pub exit_smaller : (direction : Direction) (shape : Shape) (p q : List Row) (X :
     → IsFurther shape p X direction walk a next → IsOnExit shape q X word longer next
     → left_over (length X * (length word.letters + 2)) next.steps (longest (from_words q) + longest X) (length next.rest) < left_over (length X * (length word.letters + 2)) walk.steps (longest (from_words q) + longest X) (length walk.rest)
 exit_smaller direction shape p q X d word x z letters longer walk next a infinite e on open_end ha f after =
-    let same : f.above ≡ on.above = (let k : Some f.above ≡ Some on.above = sym f.here ∙ on.walked.here in cc) in
+    let same : f.above ≡ on.above = same_at X X walk.to f.above on.above refl f.here on.walked.here in
     let m = walk_out direction shape p q X d (child (f.above · walk.rest) a) f.whole.above f.more f.whole.walked in
     let hw = carries_word shape q d.base.pair (pos walk.steps) (word · letters) (on.above · walk.rest) on.walked.carries in
     let bound = exit_bound d.base word x z longer next infinite e after in
@@ -248,7 +248,7 @@ asked_further direction t b word h letters walk on a ha x here =
     let shape = t.element.shape in
     let X = t.quasi.basis.words in
     let d = sides direction t b word h in
-    let same : on.above ≡ x = (let k : Some on.above ≡ Some x = sym on.walked.here ∙ here in cc) in
+    let same : on.above ≡ x = same_at X X walk.to on.above x refl on.walked.here here in
     let hw : IsWordOf shape (x · walk.rest) = subst (λ y. IsWordOf shape (y · walk.rest)) same (carries_word shape b.rows d.base.pair (pos walk.steps) (word · letters) (on.above · walk.rest) on.walked.carries) in
     let infinite = infinite_back direction shape t.element.rows b.rows X d x (subst (IsInfiniteWord shape b.rows X) same (exit_infinite d.base word h.under.above h.under.under.rest letters walk (seen_above direction t b word h) h.under.under.is on)) in (
       word_after shape (x · walk.rest) (a ∷ []) hw (one_letter shape a ha),

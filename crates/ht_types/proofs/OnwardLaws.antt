@@ -27,7 +27,7 @@ abbrev pub NoneBefore : Shape → List Row → List Word → ℕ → Word → Ty
 NoneBefore shape p X k u = (j : ℕ) (v : Word) → j < k → ¬ CarriesUnderSuch shape p (IsAttractorWord shape p) X (pos j) u v
 
 -- the word of X above a carried word is one
-such_above : {shape : Shape} {p : List Row} {X : List Word} → HasSemiNormal shape p X → (k : ℤ) (u x v : Word) (z : List ℕ) → Contains X x → Carries shape p k u (x · z) → CarriesUnderSuch shape p (IsAttractorWord shape p) X k u v → IsAttractorWord shape p x
+pub such_above : {shape : Shape} {p : List Row} {X : List Word} → HasSemiNormal shape p X → (k : ℤ) (u x v : Word) (z : List ℕ) → Contains X x → Carries shape p k u (x · z) → CarriesUnderSuch shape p (IsAttractorWord shape p) X k u v → IsAttractorWord shape p x
 such_above {shape} {p} {X} h k u x v z c carries s =
     let is : v ≡ x · z = carries_single shape p h.pair k u v (x · z) s.carries carries in
     subst (IsAttractorWord shape p) (basis_single shape X h.semi.basis v s.above x s.listed c s.under (record { rest = z; is = is })) s.such
@@ -40,7 +40,7 @@ sum k j i e = omega (arith, ints)
 later_under : (shape : Shape) (p : List Row) → IsPair shape p → (X : List Word) (k j i : ℕ) → k + j ≡ i → (u v : Word) → Carries shape p (pos k) u v → CarriesUnder shape p (pos j) v X → CarriesUnder shape p (pos i) u X
 later_under shape p pair X k j i e u v c s = record { to = s.to; carries = carries_sum shape p pair (pos k) (pos j) (pos i) (sum k j i e) u v s.to c s.carries; under = s.under }
 
-sooner_under : (shape : Shape) (p : List Row) → IsPair shape p → (X : List Word) (k j i : ℕ) → k + j ≡ i → (u v : Word) → Carries shape p (pos k) u v → CarriesUnder shape p (pos i) u X → CarriesUnder shape p (pos j) v X
+pub sooner_under : (shape : Shape) (p : List Row) → IsPair shape p → (X : List Word) (k j i : ℕ) → k + j ≡ i → (u v : Word) → Carries shape p (pos k) u v → CarriesUnder shape p (pos i) u X → CarriesUnder shape p (pos j) v X
 sooner_under shape p pair X k j i e u v c s = record { to = s.to; carries = carries_rest shape p pair (pos k) (pos j) (pos i) (sum k j i e) u v s.to c s.carries; under = s.under }
 
 later_such : (shape : Shape) (p : List Row) → IsPair shape p → (X : List Word) (k j i : ℕ) → k + j ≡ i → (u v w : Word) → Carries shape p (pos k) u v → CarriesUnderSuch shape p (IsAttractorWord shape p) X (pos j) v w → CarriesUnderSuch shape p (IsAttractorWord shape p) X (pos i) u w

@@ -18,6 +18,7 @@ use Rattle.ht_pair.specs.Steps.{Carries}
 use Rattle.ht_pair.specs.declared.row.Row.{Row}
 use Rattle.ht_pair.proofs.BasisLaws.{basis_single}
 use Rattle.ht_pair.proofs.CarriesLaws.{carries_single, carries_word, carries_extends, carries_back, carries_rest, carries_sum, carries_itself}
+use Rattle.ht_types.specs.CycleWords.{IsUnderCycle}
 
 -- ---- words that a power leads back to
 
@@ -177,3 +178,20 @@ cycle_next shape p pair X semi x m c cycle = cycle_around shape p pair X semi (p
 -- and from one to it
 pub cycle_before : (shape : Shape) (p : List Row) → IsPair shape p → (X : List Word) → IsSemiNormal shape p X → (x : Word) (m : ℕ) → Contains X x → IsCycle shape p x m → (z : Word) × Contains X z × Carries shape p (pos 1) z x × IsCycle shape p z m
 cycle_before shape p pair X semi x m c cycle = let f = cycle_around shape p pair X semi (negsuc 0) x m c cycle in (f.word, f.listed, carries_back shape p pair (negsuc 0) x f.word f.carries, f.cycle)
+
+-- ---- words under cycle words
+
+-- k steps lead from a word under a cycle word to one under a word of the same cycle, with the same letters behind it
+pub under_cycle_moved : (shape : Shape) (p : List Row) → IsPair shape p → (X : List Word) → IsSemiNormal shape p X → (k : ℤ) (u : Word) (m : ℕ) → IsWordOf shape u → (c : IsUnderCycle shape p X u m) → (on : IsOnCycle shape p X c.above m k) × Carries shape p k u (on.word · c.under.rest)
+under_cycle_moved shape p pair X semi k u m word c =
+    let z = c.under.rest in
+    let hz = word_rest shape c.above z (subst (IsWordOf shape) c.under.is word) in
+    let on = cycle_around shape p pair X semi k c.above m c.listed c.cycle in
+    (on, subst (λ t. Carries shape p k t (on.word · z)) (sym c.under.is) (carries_extends shape p k c.above on.word z hz on.carries))
+
+-- and as many steps as the cycle is long lead back to it
+pub under_cycle_home : (shape : Shape) (p : List Row) (X : List Word) (u : Word) (m : ℕ) → IsWordOf shape u → IsUnderCycle shape p X u m → Carries shape p (pos m) u u
+under_cycle_home shape p X u m word c =
+    let z = c.under.rest in
+    let hz = word_rest shape c.above z (subst (IsWordOf shape) c.under.is word) in
+    subst (λ t. Carries shape p (pos m) t t) (sym c.under.is) (carries_extends shape p (pos m) c.above c.above z hz c.cycle.holds)

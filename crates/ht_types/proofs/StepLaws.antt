@@ -1,12 +1,14 @@
 -- Where a canonical pair carries the words of a basis, told from its rows.
-use Rattle.std.proofs.Common.{◌≡◌, ℕ, List, length, Some, slice_get, subst, pos}
+use Rattle.std.proofs.Common.{◌≡◌, ℕ, List, ◌++◌, length, Some, slice_get, subst, pos}
 use Rattle.ht_word.specs.Words.{IsWordOf, ◌·◌}
 use Rattle.ht_word.specs.declared.shape.Shape.{Shape}
 use Rattle.ht_word.specs.declared.word.Word.{Word}
+use Rattle.ht_word.proofs.WordLaws.{after-append, word_rest}
 use Rattle.ht_pair.specs.Actions.{Moves, IsCanonical}
 use Rattle.ht_pair.specs.BadChains as chains
 use Rattle.ht_pair.specs.Steps.{Carries}
 use Rattle.ht_pair.specs.declared.row.Row.{Row}
+use Rattle.ht_pair.proofs.CarriesLaws.{carries_extends}
 use Rattle.ht_quasi.proofs.StepLaws.{moved_carries}
 use Rattle.ht_types.specs.declared.step.Step.{Step}
 use Rattle.ht_types.specs.declared.step.Step.TheVariants.{Splits}
@@ -23,6 +25,14 @@ leads_there shape p canonical X W u v y rest place h m are here is = record {
   above = y;
   here = subst (λ V. slice_get V place ≡ Some y) are here;
   carries = subst (Carries shape p (pos 1) u) is (moved_carries shape p canonical u v h m);
+}
+
+-- with letters behind it the word leads there with these behind the others
+pub leads_below : (shape : Shape) (p : List Row) (X : List Word) (x : Word) (z : List ℕ) (to : ℕ) (rest : List ℕ) → IsWordOf shape (x · z) → LeadsTo shape p X x to rest → LeadsTo shape p X (x · z) to (rest ++ z)
+leads_below shape p X x z to rest h l = record {
+  above = l.above;
+  here = l.here;
+  carries = subst (Carries shape p (pos 1) (x · z)) (after-append l.above rest z) (carries_extends shape p (pos 1) x (l.above · rest) z (word_rest shape x z h) l.carries);
 }
 
 -- ---- the steps of all words

@@ -1,5 +1,5 @@
 -- Where walks in a direction stop, and how many steps they take.
-use Rattle.std.proofs.Common.{◌≡◌, ℕ, ◌≤◌, ◌<◌, ◌*◌, ◌+◌, ◌^◌, inl, inr, List, length, Some, slice_get, refl, sym, ◌∙◌, subst, arith, pos}
+use Rattle.std.proofs.Common.{◌≡◌, ℕ, ◌≤◌, ◌<◌, ◌*◌, ◌+◌, ◌^◌, inl, inr, List, length, Some, slice_get, refl, subst, arith, pos}
 use Rattle.std.proofs.lemmas.Nat.{mul-le}
 use Rattle.ht_word.specs.Words.{◌·◌, IsWordOf}
 use Rattle.ht_word.specs.declared.shape.Shape.{Shape}
@@ -9,6 +9,7 @@ use Rattle.ht_pair.specs.Elements.{ElementValue}
 use Rattle.ht_pair.specs.SemiNormal.{CarriesUnder}
 use Rattle.ht_pair.specs.declared.row.Row.{Row}
 use Rattle.ht_pair.proofs.CarriesLaws.{carries_word}
+use Rattle.ht_quasi.proofs.StepLaws.{same_at}
 use Rattle.ht_types.specs.Flows.{LeadsIn, IsEndKind, IsUnderInfinite, IsPlaced, IsWholeWalk}
 use Rattle.ht_types.specs.TypedElements.{TypedValue, IsTyped}
 use Rattle.ht_types.specs.WordKinds.{HasKind}
@@ -40,7 +41,7 @@ way_begins shape q X u walk hu placed = record { above = placed.above; walked = 
 -- it is at words of the shape
 pub way_word : {shape : Shape} {q : List Row} {X : List Word} → HasSemiNormal shape q X → (u x : Word) (walk : Walk) → IsOnWay shape q X u walk → slice_get X walk.to ≡ Some x → IsWordOf shape (x · walk.rest)
 way_word {shape} {q} {X} h u x walk w here =
-    let same : w.above ≡ x = (let k : Some w.above ≡ Some x = sym w.walked.here ∙ here in cc) in
+    let same : w.above ≡ x = same_at X X walk.to w.above x refl w.walked.here here in
     subst (λ y. IsWordOf shape (y · walk.rest)) same (carries_word shape q h.pair (pos walk.steps) u (w.above · walk.rest) w.walked.carries)
 
 -- where it hasn't come to an end, it goes on

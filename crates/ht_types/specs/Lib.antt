@@ -6,4 +6,5 @@ pub mod Courses
 pub mod CourseStates
 pub mod WordSteps
 pub mod Flows
+pub mod CycleWords
 pub mod Shares

@@ -34,4 +34,4 @@ pub use order::{Order, Profile};
 pub use sharing::{Pond, Ponds, Sharing};
 pub use step::Step;
 pub use typed::{Typed, types};
-pub use walk::{Walk, mover, next_of, walk_of};
+pub use walk::{Walk, mover, next_of, placed, walk_of};

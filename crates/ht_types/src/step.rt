@@ -36,9 +36,8 @@ pub(crate) fn step_of(
     let Some(to) = basis.find(&moved) else {
         return Ok(Step::Splits);
     };
-    // never: the word at the place is a prefix
     let Some(letters) = moved.rest_after(basis.words().at(to)) else {
-        return Ok(Step::Splits);
+        unreachable!()
     };
     let rest = Letters::from_slice(alloc, letters)?;
     Ok(Step::Leads { to, rest })

@@ -1,7 +1,7 @@
 //! The kinds of the words of a basis, told from where the steps of an element and of its inverse lead.
 ghost use Rattle.std.specs.Prelude.{◌≡◌, ◌<◌, ◌^◌, length, List, All, map, zip, IfOk};
 ghost use Rattle.ht_pair.specs.SemiNormal.{IsSemiNormal};
-ghost use Rattle.ht_types.specs.declared.step.Step.{Step};
+ghost use Rattle.ht_types.specs.declared.step.Step.{Step as StepValue};
 ghost use Rattle.ht_types.specs.declared.course.Course.{Course};
 ghost use Rattle.ht_types.specs.Courses.{AreCourses};
 ghost use Rattle.ht_types.specs.TypedElements.{HasShortReaches};
@@ -10,24 +10,30 @@ ghost use Rattle.ht_types.specs.WordSteps.{AreSteps, reach_of, turned_kind, told
 
 use crate::course::{Course, Courses, courses};
 use crate::kind::{Kind, Kinds, Reach};
-use crate::step::steps;
+use crate::step::{Step, steps};
 use ht_ops::inverse;
 use ht_pair::{Basis, Element};
 use ht_word::NoMemory;
 use std::alloc::Global;
 
-// The kinds of the words of a semi-normal basis. O(N log N) comparisons of words for N words and rows,
-// and one pass over the steps of the element and of its inverse.
-pub(crate) fn kinds_of(alloc: Global, a: &Element, basis: &Basis) -> Result<Kinds, NoMemory>
+// The kinds of the words of a semi-normal basis, from the steps of the element. O(N log N)
+// comparisons of words for N words and rows, and one pass over these steps and those of the inverse.
+pub(crate) fn kinds_of(
+    alloc: Global,
+    a: &Element,
+    basis: &Basis,
+    steps: &[Step],
+) -> Result<Kinds, NoMemory>
     requires shape { basis.now.shape ≡ a.now.shape }
     requires semi_normal { IsSemiNormal a.now.shape a.now.rows basis.now.words }
     requires few { length basis.now.words < 2 ^ 121 }
+    requires steps { AreSteps a.now.shape a.now.rows basis.now.words steps.now }
     ensures kinds { IfOk result (AreKinds a.now.shape a.now.rows basis.now.words) }
     ensures short { IfOk result (All HasShortReaches) }
 {
     a.keeps_limits();
     let back = inverse(alloc, a)?;
-    let ahead = courses_of(alloc, a, basis)?;
+    let ahead = courses(alloc, steps)?;
     let behind = courses_of(alloc, &back, basis)?;
     told_kinds(alloc, ahead, behind)
 }
@@ -35,7 +41,7 @@ pub(crate) fn kinds_of(alloc: Global, a: &Element, basis: &Basis) -> Result<Kind
 // Where the steps of the element lead from the words of the basis.
 fn courses_of(alloc: Global, a: &Element, basis: &Basis) -> Result<Courses, NoMemory>
     requires { basis.now.shape ≡ a.now.shape }
-    ensures { IfOk result (λ told. (steps : List Step) × AreSteps a.now.shape a.now.rows basis.now.words steps × AreCourses steps told) }
+    ensures { IfOk result (λ told. (steps : List StepValue) × AreSteps a.now.shape a.now.rows basis.now.words steps × AreCourses steps told) }
 {
     let steps = steps(alloc, a, basis)?;
     courses(alloc, steps.as_slice())

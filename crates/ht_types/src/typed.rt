@@ -2,9 +2,12 @@
 ghost use Rattle.std.specs.Prelude.{◌≡◌, ◌<◌, Some, length, slice_get, IfOk};
 ghost use Rattle.ht_pair.specs.Bases.{TakesAtMost};
 ghost use Rattle.ht_quasi.specs.Quasis.{IsQuasi};
+ghost use Rattle.ht_word.specs.declared.word.Word.{Word};
 ghost use Rattle.ht_types.specs.TypedElements.{IsTyped};
+ghost use Rattle.ht_types.specs.WordSteps.{HasStep};
 
 use crate::kind::{Kind, Kinds};
+use crate::step::{Step, Steps, steps};
 use crate::told::kinds_of;
 use ht_pair::Element;
 use ht_quasi::Quasi;
@@ -21,16 +24,19 @@ pub struct Typed {
     quasi: Quasi,
     // those of the words of the basis, in their order
     kinds: Kinds,
+    // the steps of the element from these words
+    steps: Steps,
 }
 
 impl Model for Typed {
     ghost use Rattle.ht_types.specs.TypedElements.{TypedValue, IsTyped};
+    ghost use Rattle.ht_types.specs.WordSteps.{AreSteps};
 
     ghost Value = { TypedValue };
 
     ghost view = { λ typed. record { element = typed.element; quasi = typed.quasi; kinds = typed.kinds } };
 
-    ghost invariant = { λ typed. IsTyped typed.element typed.quasi typed.kinds };
+    ghost invariant = { λ typed. IsTyped typed.element typed.quasi typed.kinds × AreSteps typed.element.shape typed.element.rows typed.quasi.basis.words typed.steps };
 }
 
 impl Typed {
@@ -65,6 +71,14 @@ impl Typed {
         self.kinds.at(place)
     }
 
+    // Where one step of the element leads from the word of the basis at a place. Constant time.
+    pub(crate) fn step(&self, place: usize) -> &Step
+        requires { place < length self.now.quasi.basis.words }
+        ensures { (x : Word) → slice_get self.now.quasi.basis.words place ≡ Some x → HasStep self.now.element.shape self.now.element.rows self.now.quasi.basis.words x result.now }
+    {
+        self.steps.at(place)
+    }
+
     /// The kinds alone, in the order of the words. Takes no memory.
     pub fn into_kinds(self) -> Kinds
         ensures { result ≡ self.kinds }
@@ -73,6 +87,7 @@ impl Typed {
             element: _,
             quasi: _,
             kinds,
+            steps: _,
         } = self;
         kinds
     }
@@ -89,11 +104,13 @@ pub fn types(alloc: Global, a: &Element, quasi: Quasi) -> Result<Typed, NoMemory
     ensures kinds { IfOk result (λ typed. IsTyped a.now quasi typed.kinds) }
 {
     a.keeps_limits();
-    let kinds = kinds_of(alloc, a, &quasi.basis)?;
+    let steps = steps(alloc, a, &quasi.basis)?;
+    let kinds = kinds_of(alloc, a, &quasi.basis, steps.as_slice())?;
     let element = a.copy(alloc)?;
     Ok(Typed {
         element,
         quasi,
         kinds,
+        steps,
     })
 }

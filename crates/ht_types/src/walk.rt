@@ -35,7 +35,7 @@ pub fn mover(alloc: Global, t: &Typed, direction: Direction) -> Result<Element, 
 
 /// The walk from a word under the infinite part, until it is under an attractor (ahead) or a
 /// repeller (behind), or the next step carries it to no word under the basis. At most
-/// N(l + 1) steps for N words of the basis and l letters, each of two binary searches.
+/// N(l + 1) steps (`next_of`) for N words of the basis and l letters.
 pub fn walk_of(
     alloc: Global,
     t: &Typed,
@@ -52,7 +52,7 @@ pub fn walk_of(
     holds_few(word);
     let mut walk = placed(alloc, t, word)?;
     'walking: while !is_end(direction, t.kind(walk.to)) {
-        let Step::Leads { to, rest } = next_of(alloc, t, mover, &walk)? else {
+        let Step::Leads { to, rest } = next_of(alloc, t, mover, direction, &walk)? else {
             return Ok(walk);
         };
         walk = Walk {
@@ -71,12 +71,30 @@ pub(crate) fn holds_few(word: &Word)
     let _ = word.letters.len();
 }
 
-/// Where one step leads from where the walk has come: two binary searches, and copies of the letters.
-pub fn next_of(alloc: Global, t: &Typed, mover: &Element, walk: &Walk) -> Result<Step, NoMemory>
+/// Where one step leads from where the walk has come. Ahead a look-up, unless one step carries the
+/// word of the basis there to no word under it; else two binary searches. Copies the letters.
+pub fn next_of(
+    alloc: Global,
+    t: &Typed,
+    mover: &Element,
+    direction: Direction,
+    walk: &Walk,
+) -> Result<Step, NoMemory>
+    requires mover { LeadsIn direction t.now.element mover.now }
     requires place { walk.now.to < length t.now.quasi.basis.words }
     requires word { (x : Word) → slice_get t.now.quasi.basis.words walk.now.to ≡ Some x → IsWordOf mover.now.shape (x · walk.now.rest) }
     ensures { IfOk result (λ step. (x : Word) → slice_get t.now.quasi.basis.words walk.now.to ≡ Some x → HasStep mover.now.shape mover.now.rows t.now.quasi.basis.words (x · walk.now.rest) step) }
 {
+    if let Direction::Ahead = direction {
+        if let Step::Leads { to, rest } = t.step(walk.to) {
+            let mut letters = Letters::from_slice(alloc, rest.as_slice())?;
+            letters.extend(walk.rest.as_slice())?;
+            return Ok(Step::Leads {
+                to: *to,
+                rest: letters,
+            });
+        }
+    }
     let basis = &t.quasi().basis;
     let word = basis
         .words()
@@ -85,8 +103,8 @@ pub fn next_of(alloc: Global, t: &Typed, mover: &Element, walk: &Walk) -> Result
     step_of(alloc, mover, basis, &word)
 }
 
-// The walk of no steps.
-fn placed(alloc: Global, t: &Typed, word: &Word) -> Result<Walk, NoMemory>
+/// The walk of no steps. A binary search.
+pub fn placed(alloc: Global, t: &Typed, word: &Word) -> Result<Walk, NoMemory>
     requires { IsUnderSome word.now t.now.quasi.basis.words }
     ensures { IfOk result (IsPlaced t.now.quasi.basis.words word.now) }
 {

@@ -1,5 +1,6 @@
-use Rattle.std.proofs.Common.{◌≡◌, ◌<◌, ◌^◌, length, true, false, sym, ◌∙◌, subst₂, Some, arith}
+use Rattle.std.proofs.Common.{◌≡◌, ◌<◌, ◌^◌, length, true, false, refl, sym, ◌∙◌, subst₂, arith}
 use Rattle.std.proofs.lemmas.Option.{slice_get_within}
+use Rattle.ht_quasi.proofs.StepLaws.{same_at}
 use Rattle.ht_types.specs.Flows.{LeadsAway}
 use Rattle.ht_types.proofs.SeenLaws.{directed}
 use Rattle.ht_types.proofs.ExitLaws.{IsAsked, exit_begins, asked_few, first_letter, asked_further, asked_more, asked_smaller, asked_exit}
@@ -36,7 +37,7 @@ leaving-preserved c =
     let t = c.args.t.now in
     let a = c.letter_away-letter.result in
     let asked : IsAsked c.args.direction t c.args.mover.now c.args.word.now = record { typed = c.keeps_kinds.ensures; leads = c.requires.mover; under = c.requires.infinite; few = c.holds_few.ensures } in
-    let same : c.kind-in-leaving.result.now ≡ c.kind.result.now = (let k : Some c.kind-in-leaving.result.now ≡ Some c.kind.result.now = sym c.kind-in-leaving.ensures ∙ c.kind.ensures in cc) in
+    let same : c.kind-in-leaving.result.now ≡ c.kind.result.now = same_at t.kinds t.kinds c.leaving.way.to c.kind-in-leaving.result.now c.kind.result.now refl c.kind-in-leaving.ensures c.kind.ensures in
     let away : LeadsAway c.args.direction c.kind.result.now (length c.leaving.way.rest) a = subst₂ (λ kind n. LeadsAway c.args.direction kind n a) same c.len.ensures c.letter_away-letter.ensures.away in
     asked_more c.args.direction t c.args.mover.now c.args.word.now asked c.leaving.letters c.push.new.self c.leaving.way c.in_ok-way-2.way c.leaving.invariant c.kind.result.now c.kind.ensures
     (λ e. let same : false ≡ true = sym c.leaving-test.true ∙ c.is_end.ensures.1 e in cc) a (first_letter t.element.shape a c.letter_away-letter.ensures.letter) away c.in_ok-push.ensures.ok c.in_ok-way-2.ensures

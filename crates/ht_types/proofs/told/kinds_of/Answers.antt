@@ -4,13 +4,16 @@ use Rattle.ht_types.specs.declared.kind.Kind.{Kind}
 use Rattle.ht_types.specs.TypedElements.{HasShortReaches}
 use Rattle.ht_types.specs.WordKinds.{AreKinds}
 use Rattle.ht_types.specs.WordSteps.{told_kind}
-use Rattle.ht_types.proofs.KindsLaws.{courses_of_shape, kinds_right, kinds_short}
+use Rattle.ht_types.proofs.KindsLaws.{steps_inside, courses_of_shape, kinds_right, kinds_short}
 use Rattle.ht_types.proofs.told.kinds_of.Goals as goal
 
 -- what holds of the kinds that are told holds of the answer
 if_told : {E : Type 0} (P : List Kind → Type 0) (result : Result (List Kind) E) (told : List Kind) → IfOk result (λ kinds. kinds ≡ told) → ((kinds : List Kind) → kinds ≡ told → P kinds) → IfOk result P
 if_told P (Ok kinds) told is right = right kinds is
 if_told P (Err e) told is right = tt
+
+pub courses-requires : goal.courses-requires
+courses-requires c = steps_inside c.args.a.now.shape c.args.a.now.rows c.args.basis.now.words c.args.steps.now c.requires.steps
 
 pub returns-clause-kinds : goal.returns-clause-kinds
 returns-clause-kinds c =
@@ -22,7 +25,7 @@ returns-clause-kinds c =
     let same = back.0 in
     if_told (AreKinds shape p X) c.told_kinds.result (map (λ p. told_kind p.0 p.1) (zip c.in_ok-ahead.ahead c.in_ok-behind.behind)) c.told_kinds.ensures
     (λ kinds is. kinds_right shape p q X c.in_ok-ahead.ahead c.in_ok-behind.behind kinds c.keeps_limits.ensures.canonical.pair (back.1).pair back.1 c.requires.semi_normal
-    (courses_of_shape shape shape p X c.in_ok-ahead.ahead refl c.in_ok-ahead.ensures) (courses_of_shape c.in_ok-back.back.shape shape q X c.in_ok-behind.behind same c.in_ok-behind.ensures) is)
+    (courses_of_shape shape shape p X c.in_ok-ahead.ahead refl (c.args.steps.now, c.requires.steps, c.in_ok-ahead.ensures)) (courses_of_shape c.in_ok-back.back.shape shape q X c.in_ok-behind.behind same c.in_ok-behind.ensures) is)
 
 pub returns-clause-short : goal.returns-clause-short
 returns-clause-short c =
@@ -33,4 +36,4 @@ returns-clause-short c =
     let same = c.in_ok-back.ensures.0 in
     if_told (All HasShortReaches) c.told_kinds.result (map (λ p. told_kind p.0 p.1) (zip c.in_ok-ahead.ahead c.in_ok-behind.behind)) c.told_kinds.ensures
     (λ kinds is. kinds_short shape p q X c.in_ok-ahead.ahead c.in_ok-behind.behind kinds c.requires.few
-    (courses_of_shape shape shape p X c.in_ok-ahead.ahead refl c.in_ok-ahead.ensures) (courses_of_shape c.in_ok-back.back.shape shape q X c.in_ok-behind.behind same c.in_ok-behind.ensures) is)
+    (courses_of_shape shape shape p X c.in_ok-ahead.ahead refl (c.args.steps.now, c.requires.steps, c.in_ok-ahead.ensures)) (courses_of_shape c.in_ok-back.back.shape shape q X c.in_ok-behind.behind same c.in_ok-behind.ensures) is)
