@@ -1,29 +1,28 @@
 -- Words under the infinite part that share an orbit: their addresses tell by which power. X is a semi-normal basis of p.
-use Rattle.std.proofs.Common.{◌≡◌, ◌≢◌, ℕ, zero, suc, ◌<◌, ◌^◌, List, [], ◌++◌, Some, None, slice_get, refl, ap, ◌∙◌, subst, subst₂, arith, ℤ, pos, negsuc, neg_ℤ, ◌+ℤ◌, to_z, of_z}
+use Rattle.std.proofs.Common.{◌≡◌, ◌≢◌, ℕ, zero, suc, ◌<◌, ◌^◌, List, [], ◌++◌, Some, None, refl, ap, ◌∙◌, subst, subst₂, arith, ℤ, pos, negsuc, neg_ℤ, ◌+ℤ◌, to_z, of_z}
 use Rattle.std.specs.Prelude.{◌-ℤ◌, nat_abs}
 use Rattle.std.specs.Int.{w128}
 use Rattle.std.proofs.lemmas.Int.{ints, fits_signed_from_abs, to_z-of_z}
 use Rattle.std.proofs.lemmas.List.Elements.{All-nil}
-use Rattle.std.proofs.lemmas.Option.{slice_get_within, get_or_from_slice_get}
 use Rattle.ht_word.specs.Words.{◌·◌, IsLetter, IsLetters}
 use Rattle.ht_word.specs.declared.shape.Shape.{Shape}
 use Rattle.ht_word.specs.declared.word.Word.{Word}
-use Rattle.ht_word.proofs.WordLaws.{after-append, after-nil, under_refl, letters_append}
-use Rattle.ht_pair.specs.Bases.{IsPrefixFree}
+use Rattle.ht_word.proofs.WordLaws.{after-append, after-nil, letters_append}
 use Rattle.ht_pair.specs.Kinds.{IsCycleWord}
 use Rattle.ht_pair.specs.Pairs.{IsPair}
 use Rattle.ht_pair.specs.SemiNormal.{IsSemiNormal}
 use Rattle.ht_pair.specs.Steps.{Carries}
 use Rattle.ht_pair.specs.declared.row.Row.{Row}
-use Rattle.ht_pair.proofs.BasisLaws.{basis_single, prefix_free_place}
+use Rattle.ht_pair.proofs.BasisLaws.{basis_single}
 use Rattle.ht_pair.proofs.CarriesLaws.{carries_add, carries_back, carries_extends}
+use Rattle.ht_types.specs.CycleWords.{IsUnderCycle}
 use Rattle.ht_types.specs.Flows.{IsUnderInfinite}
-use Rattle.ht_types.specs.Shares.{IsUnderPeriodic, IsShare}
+use Rattle.ht_types.specs.Shares.{IsShare}
+use Rattle.ht_types.proofs.CourseLaws.{same_place}
 use Rattle.ht_types.proofs.PeriodicLaws.{periodic_word_either}
 use Rattle.ht_types.proofs.TurnLaws.{HasSemiNormal, infinite_kept}
 use Rattle.ht_flow.specs.Flowing.{FlowsUnder, IsAddressed}
 use Rattle.ht_flow.proofs.AddressLaws.{address_once, address_along}
-use Rattle.ht_share.specs.CycleWords.{IsUnderCycle}
 use Rattle.ht_share.specs.Exits.{AreExits}
 
 -- ---- one power
@@ -41,8 +40,8 @@ share_once shape p X pair semi u v j k under c d = by (j +ℤ neg_ℤ k) refl (c
     by (negsuc n) e round = absurd (back (negsuc n) (λ h. cc) round)
 
 -- no word is under both parts
-infinite_only : {shape : Shape} {p : List Row} {X : List Word} {u : Word} → HasSemiNormal shape p X → IsUnderInfinite shape p X u → IsUnderPeriodic shape p X u → ⊥
-infinite_only {shape} {p} {X} {u} h i c = i.infinite.1 (subst (λ x. IsCycleWord shape p x) (basis_single shape X h.semi.basis u c.above i.above c.listed i.infinite.0 c.under i.under) c.cycle)
+infinite_only : {shape : Shape} {p : List Row} {X : List Word} {u : Word} → HasSemiNormal shape p X → IsUnderInfinite shape p X u → (m : ℕ) → IsUnderCycle shape p X u m → ⊥
+infinite_only {shape} {p} {X} {u} h i m c = i.infinite.1 (subst (λ x. IsCycleWord shape p x) (basis_single shape X h.semi.basis u c.above i.above c.listed i.infinite.0 c.under i.under) (m, c.cycle))
 
 -- and none of the one shares an orbit with one of the other
 pub parts_apart : {shape : Shape} {p : List Row} {X : List Word} → HasSemiNormal shape p X → (u v : Word) (m : ℕ) → IsUnderInfinite shape p X u → IsUnderCycle shape p X v m → IsShare shape p X u v None
@@ -60,16 +59,12 @@ exits_joined shape p X u v y z hy hz first second = record {
   second = subst (FlowsUnder shape p X) (after-nil ((v · y) · z) ∙ after-append v y z) (second [] (All-nil (IsLetter shape)));
 }
 
--- a word stands at one place of a list of words of which none is under another
-one_place : (X : List Word) → IsPrefixFree X → (x : Word) (i j : ℕ) → slice_get X i ≡ Some x → slice_get X j ≡ Some x → i ≡ j
-one_place X free x i j here there = prefix_free_place X free x x (i, slice_get_within X i x here, get_or_from_slice_get X i x x here) (j, slice_get_within X j x there, get_or_from_slice_get X j x x there) (under_refl x)
-
 -- of two words of which a power carries the one to the other, the addresses with the same letters behind both are at one place with one rest, and differ by that power
 pub addresses_along : {shape : Shape} {p : List Row} {X : List Word} → HasSemiNormal shape p X → (u v : Word) (z : List ℕ) (at to : ℕ) (rest left : List ℕ) (steps more i : ℤ) → IsLetters shape z
     → IsAddressed shape p X (u · z) at rest steps → IsAddressed shape p X (v · z) to left more → Carries shape p i u v → (at ≡ to) × (rest ≡ left) × (i ≡ steps -ℤ more)
 addresses_along {shape} {p} {X} h u v z at to rest left steps more i hz a b carries =
     let one = address_once shape p X h.pair h.semi (u · z) a.above b.above rest left steps (i +ℤ more) a.address (address_along shape p X h.pair i more (u · z) (v · z) b.above left (carries_extends shape p i u v z hz carries) b.address) in
-    (one_place X h.semi.basis.prefix_free b.above at to (a.here ∙ ap Some one.0) b.here, one.1, difference one.2)
+    (same_place X h.semi.basis.prefix_free at to a.above b.above a.here b.here one.0, one.1, difference one.2)
   where
     difference : steps ≡ i +ℤ more → i ≡ steps -ℤ more
     difference e = omega (arith, ints)
@@ -88,7 +83,7 @@ few_between j k first second =
     kept i few = to_z-of_z w128 i (fits_signed_from_abs w128 i few)
 
 pub share_tested : {shape : Shape} {p : List Row} {X : List Word} → HasSemiNormal shape p X → (u v : Word) (k : ℤ) → IsUnderInfinite shape p X u → nat_abs k < 2 ^ 122 → Carries shape p k u v → IsShare shape p X u v (Some k)
-share_tested h u v k i few carries = (carries, few, (λ under. absurd (infinite_only h i under)))
+share_tested h u v k i few carries = (carries, few, (λ m under. absurd (infinite_only h i m under)))
 
 pub share_refuted : (shape : Shape) (p : List Row) (X : List Word) (u v : Word) (k : ℤ) → ((j : ℤ) → Carries shape p j u v → j ≡ k) → ¬ Carries shape p k u v → IsShare shape p X u v None
 share_refuted shape p X u v k only none = λ j carries. none (subst (λ i. Carries shape p i u v) (only j carries) carries)

@@ -4,5 +4,8 @@ pub mod PeriodicShares
 pub mod TypedWords
 pub mod InnerLaws
 pub mod ReturnLaws
+pub mod FollowLaws
+pub mod FoundLaws
 pub mod SearchLaws
 pub mod ListedLaws
+pub mod ListingLaws

@@ -29,6 +29,13 @@ pub record AreListed (shape : Shape) (p : List Row) (X words : List Word) (ponds
   pub each : (pond : Pond) → Contains ponds pond → Contains words pond.from × IsPond shape p X pond.from pond.steps pond.to
   pub all : (u : Word) (k : ℕ) (v : Word) → Contains words u → IsPond shape p X u k v → Contains ponds (record { from = u; steps = k; to = v })
 
+pub listed_none : (shape : Shape) (p : List Row) (X : List Word) → AreListed shape p X [] []
+listed_none shape p X = record {
+  ascending = AllPairs-nil (λ s t. word_cmp s t ≡ Less);
+  each = λ pond c. absurd (Contains-nil pond c);
+  all = λ u k v c pond. absurd (Contains-nil u c);
+}
+
 listed_more : (shape : Shape) (p : List Row) → IsPair shape p → (X words : List Word) (u : Word) (ponds : List Pond) (found : Option Pond) → ((w : Word) → Contains words w → word_cmp w u ≡ Less) → HasPond shape p X u found → AreListed shape p X words ponds → AreListed shape p X (words ++ u ∷ []) (ponds ++ option_to_list found)
 listed_more shape p pair X words u ponds None before none l = record {
   ascending = subst (λ t. IsAscending (first_words t)) (sym (append-nil ponds)) l.ascending;

@@ -1,30 +1,21 @@
 -- Words under cycle words that share an orbit: one round tells. X is a semi-normal basis of p.
-use Rattle.std.proofs.Common.{◌≡◌, ◌≢◌, ℕ, suc, ◌-◌, ◌*◌, ◌/◌, ◌%◌, ◌≤◌, ◌<◌, ◌^◌, inl, inr, List, Some, None, refl, sym, subst, arith, ℤ, pos, negsuc, ◌+ℤ◌}
+use Rattle.std.proofs.Common.{◌≡◌, ◌≢◌, ℕ, suc, ◌-◌, ◌*◌, ◌/◌, ◌%◌, ◌≤◌, ◌<◌, ◌^◌, inl, inr, List, Some, None, refl, subst, arith, ℤ, pos, negsuc, ◌+ℤ◌}
 use Rattle.std.proofs.Math.Nat.{mul-le-mul_left, mod-lt}
 use Rattle.std.proofs.lemmas.Bool.{cases_lt}
 use Rattle.std.proofs.lemmas.Int.{ints}
 use Rattle.ht_word.specs.Words.{◌·◌, IsWordOf}
 use Rattle.ht_word.specs.declared.shape.Shape.{Shape}
 use Rattle.ht_word.specs.declared.word.Word.{Word}
-use Rattle.ht_word.proofs.WordLaws.{word_rest}
 use Rattle.ht_pair.specs.Actions.{IsCanonical, Moves}
 use Rattle.ht_pair.specs.Pairs.{IsPair}
 use Rattle.ht_pair.specs.SemiNormal.{IsSemiNormal}
 use Rattle.ht_pair.specs.Steps.{Carries}
 use Rattle.ht_pair.specs.declared.row.Row.{Row}
-use Rattle.ht_pair.proofs.CarriesLaws.{carries_single, carries_word, carries_extends, carries_rest, carries_sum}
+use Rattle.ht_pair.proofs.CarriesLaws.{carries_single, carries_word, carries_rest, carries_sum}
 use Rattle.ht_quasi.proofs.StepLaws.{moved_carries, carried_moves}
+use Rattle.ht_types.specs.CycleWords.{IsUnderCycle}
 use Rattle.ht_types.specs.Shares.{IsShare}
-use Rattle.ht_types.proofs.PeriodicLaws.{carries_round, cycle_under}
-use Rattle.ht_share.specs.CycleWords.{IsUnderCycle}
-
--- m steps lead back to a word under a cycle word that they lead back to
-cycle_round : {shape : Shape} {p : List Row} {X : List Word} {u : Word} {m : ℕ} → IsWordOf shape u → IsUnderCycle shape p X u m → Carries shape p (pos m) u u
-cycle_round {shape} {p} {X} {u} {m} word c =
-    let x = c.above in
-    let z = c.under.rest in
-    let hz = word_rest shape x z (subst (IsWordOf shape) c.under.is word) in
-    subst (λ t. Carries shape p (pos m) t t) (sym c.under.is) (carries_extends shape p (pos m) x x z hz c.cycle.holds)
+use Rattle.ht_types.proofs.PeriodicLaws.{carries_round, under_cycle_moved, under_cycle_home}
 
 -- a number of steps below m that leads to a word
 record IsMet (shape : Shape) (p : List Row) (u v : Word) (m : ℕ) : Type 0 where
@@ -61,12 +52,9 @@ pub record IsOnRound (shape : Shape) (p : List Row) (u v word : Word) (steps : �
 
 pub round_moves : (shape : Shape) (p : List Row) → IsCanonical shape p → (X : List Word) → IsSemiNormal shape p X → (u v word : Word) (m steps : ℕ) → IsWordOf shape u → IsUnderCycle shape p X u m → IsOnRound shape p u v word steps → (next : Word) × Moves p word next
 round_moves shape p canonical X semi u v word m steps hu c on =
-    let x = c.above in
-    let z = c.under.rest in
-    let hz = word_rest shape x z (subst (IsWordOf shape) c.under.is hu) in
-    let there = cycle_under shape p canonical.pair X semi (pos (suc steps)) x c.listed (m, c.cycle) in
-    let far = subst (λ t. Carries shape p (pos (suc steps)) t (there.to · z)) (sym c.under.is) (carries_extends shape p (pos (suc steps)) x there.to z hz there.carries) in
-    (there.to · z, carried_moves shape p canonical word (there.to · z) (carries_rest shape p canonical.pair (pos steps) (pos 1) (pos (suc steps)) (omega (arith, ints)) u word (there.to · z) on.carries far))
+    let far = under_cycle_moved shape p canonical.pair X semi (pos (suc steps)) u m hu c in
+    let next = far.0.word · c.under.rest in
+    (next, carried_moves shape p canonical word next (carries_rest shape p canonical.pair (pos steps) (pos 1) (pos (suc steps)) (omega (arith, ints)) u word next on.carries far.1))
 
 pub round_on : (shape : Shape) (p : List Row) → IsCanonical shape p → (u v word next : Word) (steps : ℕ) → IsOnRound shape p u v word steps → word ≢ v → Moves p word next → IsOnRound shape p u v next (suc steps)
 round_on shape p canonical u v word next steps on other moves = record {
@@ -82,7 +70,7 @@ pub round_meets : (shape : Shape) (p : List Row) (X : List Word) (u v word : Wor
 round_meets shape p X u v word steps few on e = (
   subst (Carries shape p (pos steps) u) e on.carries,
   bound steps few,
-  (λ under. record {
+  (λ m under. record {
     steps = steps;
     is = refl;
     least = λ j c. elim (cases_lt j steps) [
@@ -98,5 +86,5 @@ round_meets shape p X u v word steps few on e = (
 -- v is not met in a whole round
 pub round_ends : (shape : Shape) (p : List Row) → IsPair shape p → (X : List Word) (u v word : Word) (m : ℕ) → IsWordOf shape u → IsUnderCycle shape p X u m → IsOnRound shape p u v word m → IsShare shape p X u v None
 round_ends shape p pair X u v word m hu c on = λ k carries.
-    let s = met shape p pair u v m c.cycle.positive (cycle_round hu c) k carries in
+    let s = met shape p pair u v m c.cycle.positive (under_cycle_home shape p X u m hu c) k carries in
     on.before s.steps s.within s.carries

@@ -1,30 +1,33 @@
 -- When a word comes back under a semi-normal basis X of p: on the walk of the word with letters behind it.
-use Rattle.std.proofs.Common.{◌≡◌, ◌≢◌, ℕ, zero, suc, ◌+◌, ◌-◌, ◌*◌, ◌≤◌, ◌<◌, inl, inr, List, [], ◌∷◌, ◌++◌, length, Some, slice_get, refl, sym, ap, ◌∙◌, subst, arith, Contains, pos, negsuc, neg_ℤ, ◌+ℤ◌}
+use Rattle.std.proofs.Common.{◌≡◌, ◌≢◌, ℕ, zero, suc, ◌+◌, ◌-◌, ◌*◌, ◌≤◌, ◌<◌, inl, inr, ◌⊎◌, ◌↔◌, List, [], ◌∷◌, ◌++◌, length, Some, slice_get, refl, sym, ap, ◌∙◌, subst, arith, Contains, pos, neg_ℤ, ◌+ℤ◌}
 use Rattle.std.proofs.Math.Nat.{mul-le-mul_left}
 use Rattle.std.proofs.lemmas.Bool.{cases_lt}
 use Rattle.std.proofs.lemmas.Int.{ints}
-use Rattle.std.proofs.lemmas.List.{length-append, append_cancel_right}
-use Rattle.ht_word.specs.Words.{◌·◌, IsLetters, IsUnderSome}
+use Rattle.std.proofs.lemmas.List.{length-append, append-nil, append_assoc, append_cancel_right}
+use Rattle.std.proofs.lemmas.List.Elements.{All-nil, All-contains}
+use Rattle.ht_word.specs.Words.{◌·◌, IsLetter, IsLetters, IsUnderSome, IsWordOf}
 use Rattle.ht_word.specs.declared.shape.Shape.{Shape}
 use Rattle.ht_word.specs.declared.word.Word.{Word}
-use Rattle.ht_word.proofs.WordLaws.{after-append, after-nil, after_cancel, prefixes, under_after, letters_front, word_rest}
-use Rattle.ht_pair.specs.Kinds.{IsAttractorWord}
+use Rattle.ht_word.proofs.WordLaws.{after-append, after-nil, after_cancel, prefixes, under_after, letters_append, letters_front, letters_back, word_rest}
+use Rattle.ht_pair.specs.Kinds.{IsAttractorWord, IsRepeller}
+use Rattle.ht_pair.specs.Pairs.{IsPair}
 use Rattle.ht_pair.specs.Orbits.{IsPond}
-use Rattle.ht_pair.specs.SemiNormal.{CarriesUnder, StaysAhead}
+use Rattle.ht_pair.specs.SemiNormal.{CarriesUnder, StaysAhead, StaysBehind}
 use Rattle.ht_pair.specs.Steps.{Carries}
 use Rattle.ht_pair.specs.declared.row.Row.{Row}
 use Rattle.ht_pair.proofs.BasisLaws.{basis_single, some_at}
-use Rattle.ht_pair.proofs.CarriesLaws.{carries_single, carries_word, carries_extends, carries_back, carries_rest, carries_sum}
+use Rattle.ht_pair.proofs.CarriesLaws.{carries_single, carries_word, carries_itself, carries_extends, carries_back, carries_rest, carries_sum}
 use Rattle.ht_pair.proofs.KindLaws.{repeated, length-repeated, carries_times}
 use Rattle.ht_quasi.proofs.StepLaws.{listed_at}
 use Rattle.ht_types.specs.declared.direction.Direction.TheVariants.{Ahead}
 use Rattle.ht_types.specs.declared.exit.Exit.{Exit}
 use Rattle.ht_types.specs.declared.walk.Walk.{Walk}
-use Rattle.ht_types.specs.Flows.{IsExit}
+use Rattle.ht_types.specs.Flows.{IsExit, IsPlaced}
+use Rattle.ht_types.proofs.OnwardLaws.{early_under}
 use Rattle.ht_types.proofs.TurnLaws.{HasSemiNormal}
 use Rattle.ht_flow.proofs.AttractorLaws.{attractor_ahead}
 use Rattle.ht_share.specs.InnerWords.{IsInner}
-use Rattle.ht_share.specs.PondWalks.{ComesTo, IsNone, IsNext, IsEnough}
+use Rattle.ht_share.specs.PondWalks.{ComesTo, IsNone, IsNext, IsSettled, IsEnough}
 
 -- ---- the way of the word with letters behind it
 
@@ -71,14 +74,100 @@ not_ended h k u x w z listed carries none s = let e = ended h k u x w z listed c
 pub ended_at : {shape : Shape} {p : List Row} {X : List Word} → HasSemiNormal shape p X → (k : ℕ) (u x : Word) (w z front : List ℕ) → Contains X x → Carries shape p (pos k) (u · w) (x · z) → z ≡ front ++ w → (s : CarriesUnder shape p (pos k) u X) → s.to ≡ x · front
 ended_at h k u x w z front listed carries is s = let e = ended h k u x w z listed carries s in e.word ∙ ap (λ t. x · t) (append_cancel_right e.front front w (sym e.letters ∙ is))
 
--- a power that is the first to carry a word under X carries it to a word that the inverse carries to no word under X
-first_back : {shape : Shape} {p : List Row} {X : List Word} → HasSemiNormal shape p X → (k : ℕ) (u v : Word) → 1 ≤ k → IsNone shape p X u k → Carries shape p (pos (k + 1)) u v → ¬ CarriesUnder shape p (negsuc 0) v X
-first_back {shape} {p} {X} h k u v positive none carries s =
-    none k positive (omega arith) (record { to = s.to; carries = carries_sum shape p h.pair (pos (k + 1)) (negsuc 0) (pos k) (omega (arith, ints)) u v s.to carries s.carries; under = s.under })
+-- ---- an inner word comes back under words that stay ahead alone
 
-pub inner_back : {shape : Shape} {p : List Row} {X : List Word} → HasSemiNormal shape p X → (k steps : ℕ) (u : Word) → steps ≡ k + 1 → IsInner shape p X u → IsNone shape p X u k → (s : CarriesUnder shape p (pos steps) u X) → ¬ CarriesUnder shape p (negsuc 0) s.to X
-inner_back {shape} {p} {X} h zero steps u is inner none s behind = inner.leaves (subst (λ i. CarriesUnder shape p (pos i) u X) (let e : steps ≡ 1 = omega arith in e) s)
-inner_back {shape} {p} {X} h (suc k) steps u is inner none s behind = first_back h (suc k) u s.to (omega arith) none (subst (λ i. Carries shape p (pos i) u s.to) is s.carries) behind
+-- a word that stays behind would bring back the word to which one step carries it
+pub inner_stays : {shape : Shape} {p : List Row} {X : List Word} → HasSemiNormal shape p X → (k : ℕ) (u : Word) → 1 ≤ k → IsInner shape p X u → (s : CarriesUnder shape p (pos k) u X) → StaysAhead shape p X s.under.above
+inner_stays {shape} {p} {X} h k u positive inner s = elim (All-contains (λ t. StaysAhead shape p X t ⊎ StaysBehind shape p X t) X s.under.above h.semi.stays s.under.listed) [
+  | inl ahead ↦ ahead
+  | inr behind ↦
+      let x = s.under.above in
+      let z = s.under.under.rest in
+      let b = behind (k - 1) in
+      let hz = word_rest shape x z (subst (IsWordOf shape) s.under.under.is (carries_word shape p h.pair (pos k) u s.to s.carries)) in
+      let back : Carries shape p (neg_ℤ (pos (k - 1))) s.to (b.to · z) = subst (λ t. Carries shape p (neg_ℤ (pos (k - 1))) t (b.to · z)) (sym s.under.under.is) (carries_extends shape p (neg_ℤ (pos (k - 1))) x b.to z hz b.carries) in
+      absurd (inner.leaves (record {
+        to = b.to · z;
+        carries = carries_sum shape p h.pair (pos k) (neg_ℤ (pos (k - 1))) (pos 1) (one k positive) u s.to (b.to · z) s.carries back;
+        under = some_at X b.under.above (b.to · z) b.under.listed (record { rest = b.under.under.rest ++ z; is = ap (λ t. t · z) b.under.under.is ∙ after-append b.under.above b.under.under.rest z });
+      }))
+]
+  where
+    one : (k : ℕ) → 1 ≤ k → pos k +ℤ neg_ℤ (pos (k - 1)) ≡ pos 1
+    one k l = omega (arith, ints)
+
+-- so its walk has settled where it comes back
+pub unsettled : {shape : Shape} {p : List Row} {X : List Word} → HasSemiNormal shape p X → (u : Word) (w : List ℕ) (walk : Walk) → IsInner shape p X u → 1 ≤ walk.steps → ComesTo shape p X (u · w) walk → ¬ IsSettled shape p X (length w) walk → ¬ CarriesUnder shape p (pos walk.steps) u X
+unsettled {shape} {p} {X} h u w walk inner positive c none s =
+    let e = ended h walk.steps u c.above w walk.rest (listed_at X walk.to c.above c.here) c.carries s in
+    let one : s.under.above ≡ c.above = basis_single shape X h.semi.basis s.to s.under.above c.above s.under.listed (listed_at X walk.to c.above c.here) s.under.under (record { rest = e.front; is = e.word }) in
+    none (record {
+      above = c.above;
+      here = c.here;
+      ahead = subst (StaysAhead shape p X) one (inner_stays h walk.steps u positive inner s);
+      long = omega (arith, ap (λ (z : List ℕ). length z) e.letters, length-append e.front w);
+    })
+
+-- a word above one that steps carry to the repeller above it never comes back: else that repeller would stay ahead
+record LeadsHome (shape : Shape) (p : List Row) (x : Word) (by : List ℕ) (k : ℕ) : Type 0 where
+  more : List ℕ
+  of_shape : IsLetters shape more
+  steps : ℕ
+  many : k ≤ steps
+  carries : Carries shape p (pos steps) (x · (by ++ more)) x
+
+leads_home : (shape : Shape) (p : List Row) → IsPair shape p → (x : Word) (m : ℕ) (by : List ℕ) → 1 ≤ m → IsLetters shape by → Carries shape p (pos m) (x · by) x → (k : ℕ) → LeadsHome shape p x by k
+leads_home shape p pair x m by positive hb round zero = record {
+  more = [];
+  of_shape = All-nil (IsLetter shape);
+  steps = m;
+  many = omega arith;
+  carries = subst (λ z. Carries shape p (pos m) (x · z) x) (sym (append-nil by)) round;
+}
+leads_home shape p pair x m by positive hb round (suc k) =
+    let l = leads_home shape p pair x m by positive hb round k in
+    let longer : IsLetters shape (by ++ l.more) = letters_append shape by l.more hb l.of_shape in
+    let first : Carries shape p (pos m) (x · (by ++ (by ++ l.more))) (x · (by ++ l.more)) = subst (λ t. Carries shape p (pos m) t (x · (by ++ l.more))) (after-append x by (by ++ l.more)) (carries_extends shape p (pos m) (x · by) x (by ++ l.more) longer round) in
+    record {
+      more = by ++ l.more;
+      of_shape = longer;
+      steps = m + l.steps;
+      many = omega (arith, positive, l.many);
+      carries = carries_sum shape p pair (pos m) (pos l.steps) (pos (m + l.steps)) refl (x · (by ++ (by ++ l.more))) (x · (by ++ l.more)) x first l.carries;
+    }
+
+pub repelled : {shape : Shape} {p : List Row} {X : List Word} → HasSemiNormal shape p X → (u x : Word) (m : ℕ) (by z w : List ℕ) → Contains X x → IsRepeller shape p x m by → u ≡ x · z → by ≡ z ++ w → IsInner shape p X u → (k : ℕ) (v : Word) → ¬ IsPond shape p X u k v
+repelled {shape} {p} {X} h u x m by z w listed repels is whole inner k v pond =
+    let s = pond.first.holds in
+    let y = s.under.above in
+    let r = s.under.under.rest in
+    let hu : IsWordOf shape (x · z) = subst (IsWordOf shape) is inner.word in
+    let back : Carries shape p (pos m) (x · by) x = subst (λ i. Carries shape p i (x · by) x) (twice m) (carries_back shape p h.pair (neg_ℤ (pos m)) x (x · by) repels.lengthens.1) in
+    let hb = word_rest shape x by (carries_word shape p h.pair (neg_ℤ (pos m)) x (x · by) repels.lengthens.1) in
+    let l = leads_home shape p h.pair x m by repels.first.positive hb back k in
+    let d = l.steps - k in
+    let tail = w ++ l.more in
+    let hw : IsLetters shape tail = letters_append shape w l.more (letters_back shape z w (subst (IsLetters shape) whole hb)) l.of_shape in
+    let same : x · (by ++ l.more) ≡ u · tail = ap (λ t. x · (t ++ l.more)) whole ∙ ap (λ t. x · t) (append_assoc z w l.more) ∙ sym (after-append x z tail) ∙ ap (λ t. t · tail) (sym is) in
+    let home : Carries shape p (pos l.steps) (u · tail) x = subst (λ t. Carries shape p (pos l.steps) t x) same l.carries in
+    let here : Carries shape p (pos k) (u · tail) (y · (r ++ tail)) = subst (Carries shape p (pos k) (u · tail)) (ap (λ t. t · tail) s.under.under.is ∙ after-append y r tail) (carries_extends shape p (pos k) u s.to tail hw s.carries) in
+    let a = inner_stays h k u pond.first.positive inner s (d + 1) in
+    let hr = word_rest shape y (r ++ tail) (carries_word shape p h.pair (pos k) (u · tail) (y · (r ++ tail)) here) in
+    let on : Carries shape p (pos (l.steps + 1)) (u · tail) (a.to · (r ++ tail)) = carries_sum shape p h.pair (pos k) (pos (d + 1)) (pos (l.steps + 1)) (sum k l.steps l.many) (u · tail) (y · (r ++ tail)) (a.to · (r ++ tail)) here (carries_extends shape p (pos (d + 1)) y a.to (r ++ tail) hr a.carries) in
+    let next : CarriesUnder shape p (pos 1) x X = record {
+      to = a.to · (r ++ tail);
+      carries = carries_rest shape p h.pair (pos l.steps) (pos 1) (pos (l.steps + 1)) refl (u · tail) x (a.to · (r ++ tail)) home on;
+      under = some_at X a.under.above (a.to · (r ++ tail)) a.under.listed (record { rest = a.under.under.rest ++ (r ++ tail); is = ap (λ t. t · (r ++ tail)) a.under.under.is ∙ after-append a.under.above a.under.under.rest (r ++ tail) });
+    } in
+    inner.leaves (subst (λ t. CarriesUnder shape p (pos 1) t X) (sym is) (early_under shape p X 1 x z (word_rest shape x z hu) next))
+  where
+    twice : (m : ℕ) → neg_ℤ (neg_ℤ (pos m)) ≡ pos m
+    twice m = omega (arith, ints)
+
+    sum : (k n : ℕ) → k ≤ n → pos k +ℤ pos ((n - k) + 1) ≡ pos (n + 1)
+    sum k n l = omega (arith, ints)
+
+-- ---- the way of the word with letters behind it, on
 
 -- where the way has come under a word that stays ahead, with as many letters at least, the word is under X if it is so later
 pub back_already : {shape : Shape} {p : List Row} {X : List Word} → HasSemiNormal shape p X → (j k : ℕ) (u x : Word) (w z : List ℕ) → j ≤ k → Contains X x → StaysAhead shape p X x → Carries shape p (pos j) (u · w) (x · z) → length w ≤ length z → CarriesUnder shape p (pos k) u X → CarriesUnder shape p (pos j) u X
@@ -156,7 +245,17 @@ exit_stays {shape} {p} {X} h u exit e k = elim (cases_lt exit.steps k) [
     sum : (j k : ℕ) → j < k → pos j +ℤ pos (k - j) ≡ pos k
     sum j k l = omega (arith, ints)
 
--- so its walk goes on
+-- its walk begins where the word stands
+pub comes_first : (shape : Shape) (p : List Row) (X : List Word) (u : Word) (w rest : List ℕ) (start : Walk) → IsPlaced X u start → IsWordOf shape (u · w) → rest ≡ start.rest ++ w → ComesTo shape p X (u · w) (record { steps = start.steps; to = start.to; rest = rest })
+comes_first shape p X u w rest start placed h is =
+    let same : u · w ≡ placed.above · rest = ap (λ t. t · w) placed.is ∙ after-append placed.above start.rest w ∙ ap (λ z. placed.above · z) (sym is) in
+    record {
+      above = placed.above;
+      here = placed.here;
+      carries = subst (λ k. Carries shape p (pos k) (u · w) (placed.above · rest)) (sym placed.none) (subst (Carries shape p (pos 0) (u · w)) same (carries_itself shape p (u · w) h));
+    }
+
+-- and goes on
 pub goes_on : {shape : Shape} {p : List Row} {X : List Word} → HasSemiNormal shape p X → (u x : Word) (walk : Walk) → StaysAhead shape p X u → (c : ComesTo shape p X u walk) → slice_get X walk.to ≡ Some x → CarriesUnder shape p (pos 1) (x · walk.rest) X
 goes_on {shape} {p} {X} h u x walk stays c here =
     let one : c.above ≡ x = (let k : Some c.above ≡ Some x = sym c.here ∙ here in cc) in
@@ -172,12 +271,11 @@ comes_further {shape} {p} {X} h u walk next c n =
     sum : (j k : ℕ) → k ≡ j + 1 → pos j +ℤ pos 1 ≡ pos k
     sum j k e = omega (arith, ints)
 
--- under an attractor, with as many letters at least, the word never is back if it isn't yet
-pub settled : {shape : Shape} {p : List Row} {X : List Word} → HasSemiNormal shape p X → (u : Word) (w : List ℕ) (walk : Walk) → ComesTo shape p X (u · w) walk → 1 ≤ walk.steps → length w ≤ length walk.rest → ((x : Word) → slice_get X walk.to ≡ Some x → IsAttractorWord shape p x) → IsNone shape p X u walk.steps
-    → (k : ℕ) (v : Word) → ¬ IsPond shape p X u k v
-settled {shape} {p} {X} h u w walk c positive long attracts none =
-    let listed = listed_at X walk.to c.above c.here in
-    never_back h walk.steps u c.above w walk.rest positive listed (attractor_stays h c.above listed (attracts c.above c.here)) c.carries long none
+-- where it has settled, the word never is back if it isn't yet
+pub settled : {shape : Shape} {p : List Row} {X : List Word} → HasSemiNormal shape p X → (u : Word) (w : List ℕ) (walk : Walk) → ComesTo shape p X (u · w) walk → 1 ≤ walk.steps → IsSettled shape p X (length w) walk → IsNone shape p X u walk.steps → (k : ℕ) (v : Word) → ¬ IsPond shape p X u k v
+settled {shape} {p} {X} h u w walk c positive s none =
+    let one : s.above ≡ c.above = (let k : Some s.above ≡ Some c.above = sym s.here ∙ c.here in cc) in
+    never_back h walk.steps u c.above w walk.rest positive (listed_at X walk.to c.above c.here) (subst (StaysAhead shape p X) one s.ahead) c.carries s.long none
 
 -- after enough steps an inner word is never back
 pub enough_steps : {shape : Shape} {p : List Row} {X : List Word} → HasSemiNormal shape p X → (u : Word) (exit : Exit) (most : ℕ) → IsInner shape p X u → IsExit shape p X Ahead u exit → IsEnough shape p X exit most → IsNone shape p X u most → (k : ℕ) (v : Word) → ¬ IsPond shape p X u k v
@@ -202,3 +300,29 @@ enough_steps {shape} {p} {X} h u exit most inner e enough none =
     some : (letters : List ℕ) (most period steps : ℕ) → 1 ≤ period → most ≡ steps + period * length letters → exit.letters ≡ letters → 1 ≤ most
     some [] most period steps positive is same = absurd (inner.leaves (subst (λ t. CarriesUnder shape p (pos 1) t X) (ap (λ t. u · t) same ∙ after-nil u) (exit_stays h u exit e 1)))
     some (a ∷ letters) most period steps positive is same = omega (arith, mul-le-mul_left period (let l : 1 ≤ length (a ∷ letters) = omega arith in l))
+
+-- ---- words whose ponds are known
+
+-- a word that leaves X by one step and has no pond never comes back
+pub none_ever : (shape : Shape) (p : List Row) (X : List Word) (u : Word) → IsInner shape p X u → ((k : ℕ) (v : Word) → ¬ IsPond shape p X u k v) → (k : ℕ) → IsNone shape p X u k
+none_ever shape p X u inner none zero = λ j low high s. absurd (omega (arith, low, high))
+none_ever shape p X u inner none (suc k) =
+    let before = none_ever shape p X u inner none k in
+    none_further shape p X u k (suc k) (next k) before (λ s. none (suc k) s.to (pond_given shape p X u s.to k (suc k) inner (next k) before s.carries s.under))
+  where
+    next : (k : ℕ) → suc k ≡ k + 1
+    next k = omega arith
+
+-- one that has a pond isn't back before its end
+pub not_before : (shape : Shape) (p : List Row) (X : List Word) (u w : Word) (j k : ℕ) → IsPond shape p X u j w → 1 ≤ k → k < j → ¬ CarriesUnder shape p (pos k) u X
+not_before shape p X u w j k pond positive less = pond.first.least k positive less
+
+-- and is carried on from there
+pub from_end : (shape : Shape) (p : List Row) → IsPair shape p → (X : List Word) (u v w : Word) (j k : ℕ) → IsPond shape p X u j w → j ≤ k → Carries shape p (pos k) u v ↔ Carries shape p (pos (k - j)) w v
+from_end shape p pair X u v w j k pond less = (
+  carries_rest shape p pair (pos j) (pos (k - j)) (pos k) (sum j k less) u w v pond.carries,
+  carries_sum shape p pair (pos j) (pos (k - j)) (pos k) (sum j k less) u w v pond.carries,
+)
+  where
+    sum : (j k : ℕ) → j ≤ k → pos j +ℤ pos (k - j) ≡ pos k
+    sum j k l = omega (arith, ints)

@@ -8,12 +8,12 @@ use Rattle.ht_pair.specs.Pairs.{IsPair}
 use Rattle.ht_pair.specs.declared.row.Row.{Row}
 use Rattle.ht_pair.proofs.KindLaws.{cycle_no_attractor, cycle_no_repeller}
 use Rattle.ht_quasi.proofs.StepLaws.{listed_at}
+use Rattle.ht_types.specs.CycleWords.{IsUnderCycle}
 use Rattle.ht_types.specs.Flows.{IsUnderInfinite}
 use Rattle.ht_types.specs.TypedElements.{TypedValue, IsTyped}
 use Rattle.ht_types.specs.WordKinds.{HasKind}
 use Rattle.ht_types.specs.declared.kind.Kind.{Kind}
 use Rattle.ht_types.specs.declared.kind.Kind.TheVariants.{Cycle, Attractor, Repeller, Passing}
-use Rattle.ht_share.specs.CycleWords.{IsUnderCycle}
 
 -- a word of another kind is no cycle word
 no_cycle : (shape : Shape) (p : List Row) → IsPair shape p → (X : List Word) (x : Word) (kind : Kind) → ((m : ℕ) → kind ≢ Cycle m) → HasKind shape p X x kind → ¬ IsCycleWord shape p x

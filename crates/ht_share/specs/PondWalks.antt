@@ -1,17 +1,18 @@
--- Where a word is carried under the quasinormal basis X of p, and when it comes back as a whole.
+-- Where a word with letters behind it is carried under the quasinormal basis X of p, and when the word itself comes back.
 --
 --     ComesTo shape p X u walk        the walk's steps carry u to the word of X at its place with its letters behind it
 --     IsNone shape p X u k            none of the powers from 1 to k carries u under X
 --     IsNext shape p X walk next      one step leads from where the walk has come to where the next one has
---     IsBack shape p X u k found      the k-th power carries u to the word, which is under X; or to no word under X
+--     IsSettled shape p X count walk  the word of X at the walk's place stays ahead, with so many letters behind it at least
+--     IsFurther shape p X u k most found  a further walk of u, of more than k steps and no more than most; or none, where the power most carries u to no word under X
 --     IsEnough shape p X exit most    the exit's steps, and as many rounds of the attractor as the exit has letters
 use Rattle.std.specs.Prelude.{ℕ, pos, ◌≡◌, ◌≤◌, ◌<◌, ◌+◌, ◌*◌, ◌^◌, List, length, Option, None, Some, slice_get}
 use Rattle.ht_word.specs.declared.word.Word.{Word}
 use Rattle.ht_word.specs.declared.shape.Shape.{Shape}
-use Rattle.ht_word.specs.Words.{◌·◌, IsUnderSome}
+use Rattle.ht_word.specs.Words.{◌·◌}
 use Rattle.ht_pair.specs.declared.row.Row.{Row}
 use Rattle.ht_pair.specs.Kinds.{IsAttractor}
-use Rattle.ht_pair.specs.SemiNormal.{CarriesUnder}
+use Rattle.ht_pair.specs.SemiNormal.{CarriesUnder, StaysAhead}
 use Rattle.ht_pair.specs.Steps.{Carries}
 use Rattle.ht_types.specs.declared.exit.Exit.{Exit}
 use Rattle.ht_types.specs.declared.walk.Walk.{Walk}
@@ -29,9 +30,15 @@ pub record IsNext (shape : Shape) (p : List Row) (X : List Word) (walk next : Wa
   pub steps : next.steps ≡ walk.steps + 1
   pub leads : (x : Word) → slice_get X walk.to ≡ Some x → LeadsTo shape p X (x · walk.rest) next.to next.rest
 
-abbrev pub IsBack : Shape → List Row → List Word → Word → ℕ → Option Word → Type 0
-IsBack shape p X u k None = ¬ CarriesUnder shape p (pos k) u X
-IsBack shape p X u k (Some v) = Carries shape p (pos k) u v × IsUnderSome v X
+pub record IsSettled (shape : Shape) (p : List Row) (X : List Word) (count : ℕ) (walk : Walk) : Type 0 where
+  pub above : Word
+  pub here : slice_get X walk.to ≡ Some above
+  pub ahead : StaysAhead shape p X above
+  pub long : count ≤ length walk.rest
+
+abbrev pub IsFurther : Shape → List Row → List Word → Word → ℕ → ℕ → Option Walk → Type 0
+IsFurther shape p X u k most None = ¬ CarriesUnder shape p (pos most) u X
+IsFurther shape p X u k most (Some walk) = (k < walk.steps) × (walk.steps ≤ most) × ComesTo shape p X u walk
 
 pub record IsEnough (shape : Shape) (p : List Row) (X : List Word) (exit : Exit) (most : ℕ) : Type 0 where
   pub above : Word

@@ -8,7 +8,7 @@ use ht_pair::Element;
 use ht_word::{NoMemory, Word};
 use std::alloc::Global;
 
-// Whether the k-th power of the element carries the one word to the other.
+// Whether the k-th power of the element carries the one word to the other, by |k| steps of the image.
 pub(crate) fn carries(
     alloc: Global,
     f: &Element,
@@ -20,7 +20,7 @@ pub(crate) fn carries(
     ensures { IfOk result (λ yes. IsTrue yes ↔ ShareOrbit f.now.shape f.now.rows u.now v.now k) }
 {
     f.keeps_limits();
-    let image = Image::cone(alloc, u.copy(alloc)?)?.steps(alloc, f, k)?;
+    let image = Image::cone(alloc, u.copy(alloc)?)?.walk(alloc, f, k)?;
     let Some(word) = image.as_word() else {
         return Ok(false);
     };

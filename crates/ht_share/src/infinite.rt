@@ -1,5 +1,5 @@
 //! Words under the infinite part that share an orbit.
-ghost use Rattle.std.specs.Prelude.{◌≡◌, ◌<◌, ◌^◌, ℤ, nat_abs, IfOk, MatchOption};
+ghost use Rattle.std.specs.Prelude.{◌≡◌, ◌<◌, ◌^◌, ◌↔◌, ℤ, nat_abs, IfOk, IsTrue, MatchOption};
 ghost use Rattle.ht_word.specs.Words.{◌·◌, IsLetters, IsWordOf};
 ghost use Rattle.ht_pair.specs.Orbits.{ShareOrbit};
 ghost use Rattle.ht_types.specs.Flows.{IsUnderInfinite};
@@ -7,7 +7,7 @@ ghost use Rattle.ht_types.specs.Shares.{IsShare};
 ghost use Rattle.ht_flow.specs.Flowing.{FlowsUnder, IsAddressed};
 ghost use Rattle.ht_share.specs.Exits.{AreExits};
 
-use crate::carried::carries;
+use crate::follow::leads;
 use ht_flow::{Flowed, exit_word, flow};
 use ht_types::Typed;
 use ht_word::{Letters, NoMemory, Word};
@@ -37,10 +37,26 @@ pub(crate) fn share_infinite(
     let Some(k) = only_power(alloc, t, u, v)? else {
         return Ok(None);
     };
-    if carries(alloc, t.element(), k, u, v)? {
+    if is_shared(alloc, t, k, u, v)? {
         Ok(Some(k))
     } else {
         Ok(None)
+    }
+}
+
+// Whether the k-th power carries the one word to the other: steps ahead from the one, or from the
+// other where the power is below 0.
+fn is_shared(alloc: Global, t: &Typed, k: i128, u: &Word, v: &Word) -> Result<bool, NoMemory>
+    requires first { IsWordOf t.now.element.shape u.now × IsUnderInfinite t.now.element.shape t.now.element.rows t.now.quasi.basis.words u.now }
+    requires second { IsWordOf t.now.element.shape v.now × IsUnderInfinite t.now.element.shape t.now.element.rows t.now.quasi.basis.words v.now }
+    requires few { nat_abs k < 2 ^ 122 }
+    ensures { IfOk result (λ yes. IsTrue yes ↔ ShareOrbit t.now.element.shape t.now.element.rows u.now v.now k) }
+{
+    t.keeps_kinds();
+    if k < 0 {
+        leads(alloc, t, k.unsigned_abs(), v, u)
+    } else {
+        leads(alloc, t, k.unsigned_abs(), u, v)
     }
 }
 

@@ -9,15 +9,21 @@
 //! - `carried`: whether a power carries a word to a word
 //! - `inner`: the words that one step carries to no word under the basis
 //! - `pond`: the ponds
+//! - `search`: the pond of one word
+//! - `follow`: whether steps lead a word to a word, through a pond if there is one on the way
+//! - `found`: whether steps carry a word to a word, where some ponds are known
 //! - `laws`: what holds of words that share an orbit
 #![tactic(auto)]
 
 mod carried;
+mod follow;
+mod found;
 mod infinite;
 mod inner;
 pub mod laws;
 mod periodic;
 mod pond;
+mod search;
 mod sharer;
 
 pub use pond::ponds;

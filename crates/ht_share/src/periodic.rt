@@ -1,8 +1,8 @@
 //! Words under the periodic part that share an orbit.
 ghost use Rattle.std.specs.Prelude.{IfOk};
 ghost use Rattle.ht_word.specs.Words.{IsWordOf};
+ghost use Rattle.ht_types.specs.CycleWords.{IsUnderCycle};
 ghost use Rattle.ht_types.specs.Shares.{IsShare};
-ghost use Rattle.ht_share.specs.CycleWords.{IsUnderCycle};
 
 use ht_types::Typed;
 use ht_word::{NoMemory, Word};

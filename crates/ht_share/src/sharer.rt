@@ -1,9 +1,9 @@
 //! What tells whether words under the basis of an element share an orbit.
 ghost use Rattle.std.specs.Prelude.{◌≡◌, IfOk, MatchOption};
 ghost use Rattle.ht_word.specs.Words.{IsUnderSome, IsWordOf};
+ghost use Rattle.ht_types.specs.CycleWords.{IsUnderCycle};
 ghost use Rattle.ht_types.specs.Flows.{IsUnderInfinite};
 ghost use Rattle.ht_types.specs.Shares.{IsShare};
-ghost use Rattle.ht_share.specs.CycleWords.{IsUnderCycle};
 
 use crate::infinite::share_infinite;
 use crate::periodic::share_periodic;

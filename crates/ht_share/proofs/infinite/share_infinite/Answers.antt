@@ -1,7 +1,6 @@
-use Rattle.std.proofs.Common.{◌≡◌, ◌<◌, ◌^◌, ◌∙◌, nat_abs, sym, subst, arith, true, false, Some, to_z, of_z}
+use Rattle.std.proofs.Common.{◌≡◌, ◌<◌, ◌^◌, ◌∙◌, nat_abs, sym, subst, arith, true≢false, Some, to_z, of_z}
 use Rattle.std.specs.Int.{w128}
 use Rattle.std.proofs.lemmas.Int.{fits_signed_from_abs, to_z-of_z}
-use Rattle.ht_pair.specs.Elements.{ElementValue}
 use Rattle.ht_pair.specs.Orbits.{ShareOrbit}
 use Rattle.ht_types.specs.Shares.{IsShare}
 use Rattle.ht_flow.proofs.FlowingLaws.{typed_base}
@@ -17,9 +16,8 @@ returns-then-branch c =
     let found = rw c.in-Some.is at c.in_ok-k.ensures in
     let few : nat_abs k < 2 ^ 127 = omega (arith, found.0) in
     let is : to_z w128 (of_z w128 k) ≡ k = to_z-of_z w128 k (fits_signed_from_abs w128 k few) in
-    let tested : ShareOrbit t.element.shape t.element.rows u v (to_z w128 (of_z w128 k)) = subst (λ (e : ElementValue). ShareOrbit e.shape e.rows u v (to_z w128 (of_z w128 k))) c.element.ensures (c.in_ok-carries.ensures.0 c.if-branch.true) in
     subst (λ i. IsShare t.element.shape t.element.rows t.quasi.basis.words u v (Some i)) (sym is)
-    (share_tested (typed_base t c.keeps_kinds.ensures) u v k c.requires.first.1 found.0 (subst (ShareOrbit t.element.shape t.element.rows u v) is tested))
+    (share_tested (typed_base t c.keeps_kinds.ensures) u v k c.requires.first.1 found.0 (subst (ShareOrbit t.element.shape t.element.rows u v) is (c.in_ok-is_shared.ensures.0 c.if-branch.true)))
 
 pub returns-else-branch : goal.returns-else-branch
 returns-else-branch c =
@@ -30,5 +28,4 @@ returns-else-branch c =
     let found = rw c.in-Some.is at c.in_ok-k.ensures in
     let few : nat_abs k < 2 ^ 127 = omega (arith, found.0) in
     let is : to_z w128 (of_z w128 k) ≡ k = to_z-of_z w128 k (fits_signed_from_abs w128 k few) in
-    share_refuted t.element.shape t.element.rows t.quasi.basis.words u v k found.1
-    (λ carries. let no : false ≡ true = sym c.if-branch.false ∙ c.in_ok-carries.ensures.1 (subst (λ (e : ElementValue). ShareOrbit e.shape e.rows u v (to_z w128 (of_z w128 k))) (sym c.element.ensures) (subst (ShareOrbit t.element.shape t.element.rows u v) (sym is) carries)) in cc)
+    share_refuted t.element.shape t.element.rows t.quasi.basis.words u v k found.1 (λ carries. true≢false (sym (c.in_ok-is_shared.ensures.1 (subst (ShareOrbit t.element.shape t.element.rows u v) (sym is) carries)) ∙ c.if-branch.false))

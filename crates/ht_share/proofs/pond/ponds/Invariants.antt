@@ -1,6 +1,9 @@
-use Rattle.std.proofs.Common.{take}
-use Rattle.ht_share.proofs.ListedLaws.{AreListed}
+use Rattle.std.proofs.Common.{vec_len}
+use Rattle.ht_share.proofs.ListingLaws.{IsListing}
 use Rattle.ht_share.proofs.pond.ponds.Given as goal
 
-abbrev pub invariant-loop-word : goal.invariant-loop-word
-invariant-loop-word l = AreListed l.t.element.shape l.t.element.rows l.t.quasi.basis.words (take l.word-index l.word-items) l.ponds
+abbrev pub invariant-loop-last : goal.invariant-loop-last
+invariant-loop-last l = IsListing l.t.element.shape l.t.element.rows l.t.quasi.basis.words l.ponds l.found.items
+
+abbrev pub decreases-loop-last : goal.decreases-loop-last
+decreases-loop-last l = vec_len l.found

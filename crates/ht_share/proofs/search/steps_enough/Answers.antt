@@ -1,6 +1,6 @@
 use Rattle.std.proofs.Common.{arith, ap, ◌+◌, ◌*◌, ℕ}
 use Rattle.ht_share.proofs.SearchLaws.{exit_attracts, enough_given}
-use Rattle.ht_share.proofs.pond.steps_enough.Goals as goal
+use Rattle.ht_share.proofs.search.steps_enough.Goals as goal
 
 pub unreachable-requires : goal.unreachable-requires
 unreachable-requires c = exit_attracts c.args.t.now c.keeps_kinds.ensures c.args.word.now c.args.exit.now c.requires c.kind.result.now c.kind.ensures c.in_default.not-Attractor

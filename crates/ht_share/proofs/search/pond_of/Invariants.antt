@@ -1,7 +1,7 @@
 use Rattle.std.proofs.Common.{◌≡◌}
 use Rattle.ht_word.specs.Words.{◌·◌}
 use Rattle.ht_share.specs.PondWalks.{ComesTo, IsNone}
-use Rattle.ht_share.proofs.pond.pond_of.Given as goal
+use Rattle.ht_share.proofs.search.pond_of.Given as goal
 
 abbrev pub invariant-loop-step : goal.invariant-loop-step
 invariant-loop-step l = record {

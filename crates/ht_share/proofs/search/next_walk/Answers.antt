@@ -4,7 +4,7 @@ use Rattle.ht_pair.specs.Elements.{ElementValue}
 use Rattle.ht_types.specs.WordSteps.{HasStep}
 use Rattle.ht_types.specs.declared.step.Step.TheVariants.{Splits}
 use Rattle.ht_types.proofs.KindsLaws.{some_at}
-use Rattle.ht_share.proofs.pond.next_walk.Goals as goal
+use Rattle.ht_share.proofs.search.next_walk.Goals as goal
 
 pub unreachable-requires : goal.unreachable-requires
 unreachable-requires c =
