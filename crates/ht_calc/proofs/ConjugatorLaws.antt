@@ -1,7 +1,5 @@
--- Verdicts on two elements, and conjugators as elements.
-use Rattle.std.proofs.Common.{◌≡◌, ◌<◌, ◌⊎◌, ℕ, List, [], length, Contains, sym, ap, ◌∙◌, subst}
-use Rattle.std.proofs.lemmas.List.Elements.{All-contains}
-use Rattle.ht_word.specs.declared.word.Word.{Word}
+-- Conjugators as elements.
+use Rattle.std.proofs.Common.{◌≡◌, ◌<◌, ◌⊎◌, ℕ, List, length, sym, ap, ◌∙◌, subst}
 use Rattle.ht_word.specs.declared.shape.Shape.{Shape}
 use Rattle.ht_pair.specs.declared.row.Row.{Row}
 use Rattle.ht_pair.specs.declared.fault.OpFault as op
@@ -9,20 +7,11 @@ use Rattle.ht_pair.specs.declared.fault.OpFault.TheVariants as op_fault
 use Rattle.ht_pair.specs.declared.fault.RowsFault.{RowsFault}
 use Rattle.ht_pair.specs.declared.fault.RowsFault.TheVariants as rows_fault
 use Rattle.ht_pair.specs.Actions.{IsCanonical, IsCanonicalFor}
-use Rattle.ht_pair.specs.Bases.{TakesAtMost}
 use Rattle.ht_pair.specs.Elements.{ElementValue, IsElement}
-use Rattle.ht_pair.specs.Kinds.{IsCycleWord}
-use Rattle.ht_pair.specs.Parts.{IsInfinitePart}
 use Rattle.ht_pair.specs.RowsFaults.{IsRowsFault}
 use Rattle.ht_pair.specs.Sizes.{IsLarge}
 use Rattle.ht_pair.proofs.AlikeLaws.{alike_refl}
 use Rattle.ht_pair.proofs.CanonicalLaws.{canonical_unique}
-use Rattle.ht_quasi.specs.declared.quasi.Quasi.{Quasi}
-use Rattle.ht_types.specs.declared.kind.Kind.{Kind}
-use Rattle.ht_types.specs.TypedElements.{IsTyped}
-use Rattle.ht_parts.proofs.CycleTests.{all_cycles}
-use Rattle.ht_calc.specs.Budgets.{FitsBudget}
-use Rattle.ht_calc.specs.Conjugations.{IsPeriodic, HasInfinitePart}
 
 -- canonical rows are those of their element
 pub own_form : (shape : Shape) (rows copy other : List Row) → IsCanonical shape rows → copy ≡ rows → IsCanonicalFor shape other copy → other ≡ rows
@@ -50,30 +39,3 @@ pub kept_large : (shape : Shape) (rows copy : List Row) (came : RowsFault) (pass
     → ((k l : ℕ) → passed ≡ op_fault.Large k l → came ≡ rows_fault.Large k l) → passed ≡ op_fault.Large count letters → IsLarge shape rows (length rows) letters
 kept_large shape rows copy came passed count letters canonical same says by is =
     own_size shape rows copy count letters canonical same (subst (IsRowsFault shape copy) (by count letters is) says).1
-
--- what a typed element tells of the element that it was made for, and of its shape
-module _ (of element : ElementValue) (quasi : Quasi) (kinds : List Kind) (budget : ℕ) (shape : Shape) (same : of ≡ element) (of_shape : element.shape ≡ shape) (typed : IsTyped element quasi kinds) (within : TakesAtMost element.shape quasi.basis.words budget) where
-  pub fits : FitsBudget shape budget element.rows
-  fits = subst (λ (s : Shape). FitsBudget s budget element.rows) of_shape (record { basis = quasi.basis.words; quasinormal = typed.quasinormal.least; within = within })
-
-  pub as_periodic : IsInfinitePart of.shape of.rows quasi.basis.words [] → IsPeriodic shape budget element.rows
-  as_periodic none = subst (λ (s : Shape). IsPeriodic s budget element.rows) of_shape (record {
-    basis = quasi.basis.words;
-    quasinormal = typed.quasinormal.least;
-    within = within;
-    none = subst (λ (e : ElementValue). IsInfinitePart e.shape e.rows quasi.basis.words []) same none;
-  })
-
-  pub as_infinite : ¬ IsInfinitePart of.shape of.rows quasi.basis.words [] → HasInfinitePart shape budget element.rows
-  as_infinite some = subst (λ (s : Shape). HasInfinitePart s budget element.rows) of_shape (record {
-    basis = quasi.basis.words;
-    quasinormal = typed.quasinormal.least;
-    within = within;
-    some = λ none. some (subst (λ (e : ElementValue). IsInfinitePart e.shape e.rows quasi.basis.words []) (sym same) none);
-  })
-
-  -- each word of the basis is then a cycle word
-  pub are_cycles : IsInfinitePart of.shape of.rows quasi.basis.words [] → (x : Word) → Contains quasi.basis.words x → IsCycleWord of.shape of.rows x
-  are_cycles none x c = subst (λ (e : ElementValue). IsCycleWord e.shape e.rows x) (sym same)
-      (All-contains (IsCycleWord element.shape element.rows) quasi.basis.words x
-      (all_cycles element quasi kinds typed (subst (λ (e : ElementValue). IsInfinitePart e.shape e.rows quasi.basis.words []) same none)) c)

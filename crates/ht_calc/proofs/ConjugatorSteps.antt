@@ -10,11 +10,11 @@ use Rattle.ht_script.specs.declared.line.Line.{Line}
 use Rattle.ht_script.specs.declared.line.Line.TheVariants as line
 use Rattle.ht_answer.specs.declared.answer.Answer.TheVariants.{Conjugate, NotConjugate, Refused}
 use Rattle.ht_answer.specs.declared.answer.Refusal.TheVariants as refusal
-use Rattle.ht_calc.specs.Budgets.{FitsBudget, IsOverBudget}
-use Rattle.ht_calc.specs.Conjugations.{AreAsked, IsDecided, IsUndecided}
+use Rattle.ht_ask.specs.Budgets.{FitsBudget, IsOverBudget}
+use Rattle.ht_ask.specs.Conjugations.{IsDecided, IsUndecided}
 use Rattle.ht_calc.specs.Names.{rows_by_name, bound, bind, AreBound, AreOfShape, HasRoom}
 use Rattle.ht_calc.specs.States.{State}
-use Rattle.ht_calc.specs.Steps.{Does, before_group, unbound, no_room, over_budget, conjugator_bound, not_conjugate, undecided}
+use Rattle.ht_calc.specs.Steps.{AreAsked, Does, before_group, unbound, no_room, over_budget, conjugator_bound, not_conjugate, undecided}
 use Rattle.ht_calc.proofs.NameLaws.{rows_of, bound_rows, bound_of_shape, same_room, first_unbound, second_unbound, only_bound, no_room_for}
 
 both_bound : {T : Type 0} (names : List (List ℕ × T)) (first second : List ℕ) (one other : T) → bound names first ≡ Some one → bound names second ≡ Some other → AreBound names (first ∷ second ∷ [])

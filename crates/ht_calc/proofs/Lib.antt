@@ -9,12 +9,8 @@ pub mod NameLaws
 pub mod Streams
 pub mod RunLaws
 pub mod Standing
-pub mod QuestionTexts
 mod QuestionLaws
-pub mod KindTexts
-pub mod TypedLaws
 pub mod PartSteps
-pub mod ShareLaws
 pub mod ShareSteps
 pub mod ConjugatorLaws
 pub mod ConjugatorSteps

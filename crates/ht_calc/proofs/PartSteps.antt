@@ -6,9 +6,9 @@ use Rattle.ht_script.specs.declared.line.Line.TheVariants as line
 use Rattle.ht_answer.specs.declared.answer.Answer.{Answer}
 use Rattle.ht_answer.specs.declared.answer.Answer.TheVariants.{Parts, Refused}
 use Rattle.ht_answer.specs.declared.answer.Refusal.TheVariants as refusal
-use Rattle.ht_calc.specs.Budgets.{IsOverBudget}
+use Rattle.ht_ask.specs.Budgets.{IsOverBudget}
 use Rattle.ht_calc.specs.Names.{bound, bind, HasRoomFor}
-use Rattle.ht_calc.specs.PartAnswers.{ArePartsOf, HasLargePart}
+use Rattle.ht_ask.specs.PartAnswers.{ArePartsOf, HasLargePart}
 use Rattle.ht_calc.specs.States.{State}
 use Rattle.ht_calc.specs.Steps.{Does, before_group, unbound, no_room, over_budget, parts_bound, parts_large}
 use Rattle.ht_calc.proofs.NameLaws.{first_unbound, only_bound}

@@ -4,12 +4,12 @@ use Rattle.ht_word.specs.declared.shape.Shape.{Shape}
 use Rattle.ht_pair.specs.declared.row.Row.{Row}
 use Rattle.ht_answer.specs.declared.answer.Answer.TheVariants.{Refused}
 use Rattle.ht_answer.specs.declared.answer.Refusal.TheVariants as refusal
-use Rattle.ht_calc.specs.declared.question.Question.{Question}
-use Rattle.ht_calc.specs.declared.question.Question.TheVariants.{Show, Basis, Order, Types, Profile, Ponds}
-use Rattle.ht_calc.specs.Budgets.{IsOverBudget, IsFirstOver}
-use Rattle.ht_calc.specs.LineNames.{reads, binds, NeedsGroup, MeetsBudget}
-use Rattle.ht_calc.specs.Names.{bound, AreBound, IsFirstUnbound, HasRoomFor}
-use Rattle.ht_calc.specs.Questions.{asks, TakesBasis}
+use Rattle.ht_ask.specs.declared.question.Question.{Question}
+use Rattle.ht_ask.specs.declared.question.Question.TheVariants.{Show, Basis, Order, Types, Profile, Ponds}
+use Rattle.ht_ask.specs.Budgets.{IsOverBudget}
+use Rattle.ht_ask.specs.Questions.{TakesBasis}
+use Rattle.ht_calc.specs.LineNames.{reads, binds, asks, NeedsGroup, MeetsBudget}
+use Rattle.ht_calc.specs.Names.{bound, AreBound, IsFirstUnbound, IsFirstOver, HasRoomFor}
 use Rattle.ht_calc.specs.States.{State}
 use Rattle.ht_calc.specs.Steps.{Does, before_group, unbound, over_budget}
 use Rattle.ht_calc.proofs.NameLaws.{first_unbound, only_bound}

@@ -6,12 +6,7 @@ pub mod Names
 pub mod Products
 pub mod Terms
 pub mod LineNames
-pub mod Budgets
-pub mod Questions
-pub mod ShareAnswers
-pub mod PartAnswers
 pub mod States
-pub mod Conjugations
 pub mod Fetches
 pub mod Loads
 pub mod Steps

@@ -1,7 +1,8 @@
--- The names that lines read and bind, and what lines need.
+-- The names that lines read and bind, and what lines need and ask.
 --
 --     reads line              the names that the line reads, from left to right
 --     binds line              the names that it binds, in their order
+--     asks question name      the line that asks the element of this name
 --     NeedsGroup line         the line is any but a blank one and `group`
 --     MeetsBudget shape line  its words are of the shape, and its answer takes the quasinormal bases of the elements whose names it reads
 use Rattle.std.specs.Prelude.{ℕ, List, [], ◌∷◌, ⊤}
@@ -9,6 +10,8 @@ use Rattle.ht_word.specs.declared.shape.Shape.{Shape}
 use Rattle.ht_word.specs.Words.{IsWordOf}
 use Rattle.ht_script.specs.declared.line.Line.{Line}
 use Rattle.ht_script.specs.declared.line.Line.TheVariants.{Blank, Group, Reduce, LetRows, LetProduct, Show, Equal, Image, Load, Basis, Order, Types, Profile, Parts, Conj, Ponds, Share}
+use Rattle.ht_ask.specs.declared.question.Question.{Question}
+use Rattle.ht_ask.specs.declared.question.Question.TheVariants as question
 use Rattle.ht_calc.specs.Products.{names_of}
 
 abbrev pub reads : Line → List (List ℕ)
@@ -48,6 +51,14 @@ binds (Parts periodic infinite whole) = periodic ∷ infinite ∷ []
 binds (Conj name first second) = name ∷ []
 binds (Ponds name) = []
 binds (Share name first second) = []
+
+abbrev pub asks : Question → List ℕ → Line
+asks question.Show name = Show name
+asks question.Basis name = Basis name
+asks question.Order name = Order name
+asks question.Types name = Types name
+asks question.Profile name = Profile name
+asks question.Ponds name = Ponds name
 
 abbrev pub NeedsGroup : Line → Type 0
 NeedsGroup Blank = ⊥

@@ -8,6 +8,8 @@
 --     bind names name what      what a name is bound to, in the place of the name where it is bound, else behind all others
 --     AreBound names asked      each of the names asked for is bound
 --     IsFirstUnbound names asked name   of the names asked for this is the first that isn't bound
+--     IsFirstOver shape budget names asked name   of the names asked for this is the first that is bound to an element over the
+--                               budget, and those before it are bound to elements that fit
 --     HasRoom names name        the name is bound, or fewer than 256 names are
 --     HasRoomFor names new      there is room for each of the new names, one after another
 use Rattle.std.specs.Prelude.{◌≡◌, ◌≢◌, ◌⊎◌, ◌<◌, ℕ, List, [], ◌∷◌, ◌++◌, length, map, All, Option, Some, None, if◌then◌else◌, nat_eq, ⊤}
@@ -17,6 +19,7 @@ use Rattle.ht_word.specs.declared.shape.Shape.{Shape}
 use Rattle.ht_pair.specs.declared.row.Row.{Row}
 use Rattle.ht_pair.specs.Pairs.{IsPair}
 use Rattle.ht_pair.specs.Elements.{ElementValue}
+use Rattle.ht_ask.specs.Budgets.{FitsBudget, IsOverBudget}
 
 abbrev pub rows_by_name : List (List ℕ × ElementValue) → List (List ℕ × List Row)
 rows_by_name entries = map (λ entry. (entry.0, entry.1.rows)) entries
@@ -44,6 +47,11 @@ pub record IsFirstUnbound {T : Type 0} (names : List (List ℕ × T)) (asked : L
   pub are : asked ≡ before ++ name ∷ behind
   pub bound_before : AreBound names before
   pub unbound : bound names name ≡ None
+
+abbrev pub IsFirstOver : Shape → ℕ → List (List ℕ × List Row) → List (List ℕ) → List ℕ → Type 0
+IsFirstOver shape budget names [] name = ⊥
+IsFirstOver shape budget names (first ∷ asked) name = (p : List Row) × (bound names first ≡ Some p)
+    × ((IsOverBudget shape budget p × (name ≡ first)) ⊎ (FitsBudget shape budget p × IsFirstOver shape budget names asked name))
 
 abbrev pub HasRoom : {T : Type 0} → List (List ℕ × T) → List ℕ → Type 0
 HasRoom names name = (bound names name ≢ None) ⊎ (length names < 256)

@@ -3,14 +3,14 @@
 -- rows, budget, infinite, wide, large, above.
 --
 --     IsRowsRefusal shape rows why       the refusal says why the rows are no element
---     rows_from word L                   a row for each entry: from the word and the letters to the entry's word
+--     AreAsked old name first second shape p q   the group is set, first is bound to p and second to q, and there is room for the name
 --     Does old line answer new           from the state old this line gets this answer and leads to new
 --     Step old bytes made answer new     the same for the bytes of a line, which may be no line, and the fetches that it made: one where a load has its group and room for its name, else none
-use Rattle.std.specs.Prelude.{◌≡◌, ◌⊎◌, ◌↔◌, ℕ, pos, suc, List, [], ◌∷◌, length, map, Bool, IsTrue, Option, Some, None, IsSome}
+use Rattle.std.specs.Prelude.{◌≡◌, ◌⊎◌, ◌↔◌, ℕ, pos, suc, List, [], ◌∷◌, length, Bool, IsTrue, Option, Some, None, IsSome}
 use Rattle.ht_word.specs.declared.word.Word.{Word}
 use Rattle.ht_word.specs.declared.shape.Shape.{Shape}
 use Rattle.ht_word.specs.Shapes.{IsShape}
-use Rattle.ht_word.specs.Words.{◌·◌, IsWordOf}
+use Rattle.ht_word.specs.Words.{IsWordOf}
 use Rattle.ht_pair.specs.declared.row.Row.{Row}
 use Rattle.ht_pair.specs.Pairs.{IsPair}
 use Rattle.ht_pair.specs.Actions.{Alike, IsCanonicalFor}
@@ -28,17 +28,17 @@ use Rattle.ht_answer.specs.declared.answer.Answer.{Answer}
 use Rattle.ht_answer.specs.declared.answer.Answer.TheVariants.{Blank, Group, Pair, Let, Equal, Parts, Conjugate, NotKept, NotConjugate, Refused}
 use Rattle.ht_answer.specs.declared.answer.Refusal.{Refusal}
 use Rattle.ht_answer.specs.declared.answer.Refusal.TheVariants as refusal
-use Rattle.ht_calc.specs.declared.question.Question.{Question}
+use Rattle.ht_ask.specs.declared.question.Question.{Question}
+use Rattle.ht_ask.specs.Conjugations.{IsDecided, IsUndecided}
+use Rattle.ht_ask.specs.PartAnswers.{ArePartsOf, HasLargePart}
+use Rattle.ht_ask.specs.Questions.{Tells}
+use Rattle.ht_ask.specs.ShareAnswers.{TellsShare}
+use Rattle.ht_ask.specs.ShownImages.{rows_from}
 use Rattle.ht_calc.specs.Fetches.{Fetched}
 use Rattle.ht_calc.specs.Loads.{Loads}
-use Rattle.ht_calc.specs.Budgets.{IsFirstOver}
-use Rattle.ht_calc.specs.Conjugations.{AreAsked, IsDecided, IsUndecided}
-use Rattle.ht_calc.specs.LineNames.{reads, binds, NeedsGroup, MeetsBudget}
-use Rattle.ht_calc.specs.Names.{bound, bind, AreBound, IsFirstUnbound, HasRoom, HasRoomFor}
-use Rattle.ht_calc.specs.PartAnswers.{ArePartsOf, HasLargePart}
+use Rattle.ht_calc.specs.LineNames.{reads, binds, asks, NeedsGroup, MeetsBudget}
+use Rattle.ht_calc.specs.Names.{bound, bind, AreBound, IsFirstUnbound, IsFirstOver, HasRoom, HasRoomFor}
 use Rattle.ht_calc.specs.Products.{Term, names_of, StandFor, HasWide, IsProductOf, IsLargeProduct}
-use Rattle.ht_calc.specs.Questions.{asks, Tells}
-use Rattle.ht_calc.specs.ShareAnswers.{TellsShare}
 use Rattle.ht_calc.specs.States.{State}
 
 abbrev pub IsRowsRefusal : Shape → List Row → Refusal → Type 0
@@ -59,8 +59,11 @@ IsRowsRefusal shape rows (refusal.Budget name) = ⊥
 IsRowsRefusal shape rows refusal.Infinite = ⊥
 IsRowsRefusal shape rows (refusal.Above place) = ⊥
 
-abbrev pub rows_from : Word → List Entry → List Row
-rows_from word L = map (λ (e : Entry). record { from = word · e.letters; to = e.word }) L
+pub record AreAsked (old : State) (name first second : List ℕ) (shape : Shape) (p q : List Row) : Type 0 where
+  pub shape_is : old.shape ≡ Some shape
+  pub first_is : bound old.names first ≡ Some p
+  pub second_is : bound old.names second ≡ Some q
+  pub room : HasRoom old.names name
 
 pub data Does (old : State) : Line → Answer → State → Type 0 where
   blank : Does old line.Blank Blank old

@@ -13,11 +13,11 @@
 //! - `bindings`: what is bound to names
 //! - `product`: products of powers of bound elements
 //! - `words`: the words of the command line
-//! - `question`: what an element is asked
-//! - `typed`: questions that take the kinds of words
-//! - `part`: the two parts of an element
-//! - `share`: whether two words share an orbit
-//! - `conjugator`: whether two elements are conjugate, and what conjugates them
+//! - `part`: the two parts of a bound element
+//! - `share`: whether two words share an orbit of a bound element
+//! - `conjugator`: whether two bound elements are conjugate, and what conjugates them
+//!
+//! What the bound elements answer is told by `ht_ask`.
 #![tactic(auto)]
 
 mod answering;
@@ -27,12 +27,10 @@ mod lines;
 mod load;
 mod part;
 mod product;
-mod question;
 mod script;
 mod session;
 mod share;
 mod status;
-mod typed;
 mod words;
 
 pub use script::run;

@@ -1,31 +1,16 @@
 //! The two parts of an element, bound to two names.
-ghost use Rattle.std.specs.Prelude.{◌≡◌, ◌≤◌, ℕ, Some, length, IfOk, OnOk, OnErr, IsErrOf};
+ghost use Rattle.std.specs.Prelude.{◌≡◌, Some, length, IfOk, OnOk, OnErr};
 ghost use Rattle.ht_script.specs.declared.line.Line.TheVariants as line;
 ghost use Rattle.ht_answer.specs.Answers.{HasAnswerText};
-ghost use Rattle.ht_calc.specs.declared.part.PartsFault.TheVariants as fault;
-ghost use Rattle.ht_calc.specs.Budgets.{IsOverBudget};
 ghost use Rattle.ht_calc.specs.Names.{bind};
-ghost use Rattle.ht_calc.specs.PartAnswers.{ArePartsOf, HasLargePart};
 ghost use Rattle.ht_calc.specs.Steps.{Does};
 
 use crate::Session;
-use crate::typed::typed_of;
 use ht_answer::{Answer, Refusal};
-use ht_pair::{Element, OpFault};
-use ht_parts::parts;
-use ht_quasi::QuasiFault;
+use ht_ask::{PartsFault, parts_of};
+use ht_pair::Element;
 use ht_word::{Name, NoMemory};
 use std::alloc::Global;
-
-// Why an element's parts were not made.
-#[derive(Clone, Copy, Debug, PartialEq, Eq)]
-pub(crate) enum PartsFault {
-    // its quasinormal basis takes more expansions than the budget has
-    Budget,
-    // one of them is large: the first such one's number of rows, and the letters of its longest word
-    Large { rows: usize, letters: usize },
-    NoMemory,
-}
 
 impl Session {
     // Makes both parts before the session changes, and binds both names last.
@@ -80,28 +65,5 @@ impl Session {
         };
         self.names.bind_both(periodic, first, infinite, second)?;
         Ok(answer)
-    }
-}
-
-// The periodic and the infinite part of the element.
-fn parts_of(alloc: Global, element: &Element, budget: u32) -> Result<(Element, Element), PartsFault>
-    requires { budget ≤ 65536 }
-    ensures shapes { IfOk result (λ both. (both.0.shape ≡ element.now.shape) × (both.1.shape ≡ element.now.shape)) }
-    ensures parts { IfOk result (λ both. ArePartsOf element.now.shape budget element.now.rows both.0.rows both.1.rows) }
-    ensures over { IsErrOf result fault.Budget → IsOverBudget element.now.shape budget element.now.rows }
-    ensures large { (rows letters : ℕ) → IsErrOf result (fault.Large rows letters) → HasLargePart element.now.shape budget element.now.rows rows letters }
-{
-    match typed_of(alloc, element, budget) {
-        Ok(typed) => match parts(alloc, &typed) {
-            Ok((first, second)) => {
-                first.keeps_limits();
-                second.keeps_limits();
-                Ok((first, second))
-            }
-            Err(OpFault::Large { rows, letters }) => Err(PartsFault::Large { rows, letters }),
-            Err(OpFault::NoMemory) => Err(PartsFault::NoMemory),
-        },
-        Err(QuasiFault::Budget) => Err(PartsFault::Budget),
-        Err(QuasiFault::NoMemory) => Err(PartsFault::NoMemory),
     }
 }

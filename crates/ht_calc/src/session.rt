@@ -10,16 +10,16 @@ ghost use Rattle.ht_script.specs.declared.line.Line.TheVariants as line;
 ghost use Rattle.ht_script.specs.Lines.{IsLine};
 ghost use Rattle.ht_answer.specs.Answers.{IsRefusal, HasAnswerText};
 ghost use Rattle.ht_calc.specs.Fetches.{Fetched, AreFetches};
+ghost use Rattle.ht_calc.specs.LineNames.{asks};
 ghost use Rattle.ht_calc.specs.ShortLines.{HasShortRows, NamesFile};
 ghost use Rattle.ht_calc.specs.Names.{bind};
-ghost use Rattle.ht_calc.specs.Questions.{asks};
 ghost use Rattle.ht_calc.specs.States.{start};
 ghost use Rattle.ht_calc.specs.Steps.{IsRowsRefusal, Does, Step};
 
 use crate::bindings::Bindings;
 use crate::product::{first_unbound, has_wide, product_of};
-use crate::question::{Question, answer_of, image_rows};
 use ht_answer::{Answer, Refusal};
+use ht_ask::{Question, answer_of, image_rows};
 use ht_out::Library;
 use ht_pair::{Element, OpFault, Rows, RowsFault};
 use ht_quasi::QuasiFault;

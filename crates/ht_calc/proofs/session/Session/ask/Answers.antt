@@ -1,6 +1,6 @@
 use Rattle.std.proofs.Common.{◌∙◌, rules, sym, ap, subst}
 use Rattle.ht_calc.specs.Names.{rows_by_name}
-use Rattle.ht_calc.specs.Questions.{asks}
+use Rattle.ht_calc.specs.LineNames.{asks}
 use Rattle.ht_calc.specs.States.{State}
 use Rattle.ht_calc.specs.Steps.{Does, questioned}
 use Rattle.ht_calc.proofs.NameLaws.{rows_of, bound_rows, bound_of_shape}

@@ -3,9 +3,10 @@ use Rattle.ht_word.specs.declared.shape.Shape.{Shape}
 use Rattle.ht_pair.specs.declared.verdict.Verdict.TheVariants as verdict
 use Rattle.ht_pair.specs.Actions.{IsCanonical}
 use Rattle.ht_pair.specs.Verdicts.{IsVerdict}
-use Rattle.ht_calc.specs.Conjugations.{AreAsked, IsDecided}
+use Rattle.ht_ask.specs.Conjugations.{IsDecided}
 use Rattle.ht_calc.specs.Names.{rows_by_name}
 use Rattle.ht_calc.specs.States.{State}
+use Rattle.ht_calc.specs.Steps.{AreAsked}
 use Rattle.ht_calc.proofs.NameLaws.{rows_of, bound_rows, bound_of_shape, same_room}
 use Rattle.ht_calc.proofs.ConjugatorSteps.{conj_early, conj_first_none, conj_second_none, conj_no_room, conj_first_over, conj_second_over, conj_undecided, conj_apart, asked_so, decided_so, told_asked}
 use Rattle.ht_calc.proofs.session.Session.conjugate.Goals as goal

@@ -2,7 +2,7 @@ use Rattle.std.proofs.Common.{◌∙◌, rules, refl, sym, ap, true≢false}
 use Rattle.ht_answer.specs.declared.answer.Answer.TheVariants.{Refused}
 use Rattle.ht_answer.specs.declared.answer.Refusal.TheVariants as refusal
 use Rattle.ht_calc.specs.Names.{rows_by_name}
-use Rattle.ht_calc.specs.ShareAnswers.{first_foreign, second_foreign}
+use Rattle.ht_ask.specs.ShareAnswers.{first_foreign, second_foreign}
 use Rattle.ht_calc.proofs.NameLaws.{rows_of, bound_rows, bound_of_shape, word_of_element}
 use Rattle.ht_calc.proofs.ShareSteps.{share_early, share_none, share_answered, share_over}
 use Rattle.ht_calc.proofs.session.Session.share.Goals as goal

@@ -1,0 +1,8 @@
+pub use Rattle.ht_pair.specs.Images
+pub use Rattle.ht_answer.specs.Answers
+pub mod Budgets
+pub mod Questions
+pub mod ShownImages
+pub mod PartAnswers
+pub mod ShareAnswers
+pub mod Conjugations
