@@ -1,4 +1,6 @@
 //! Kinds of the words of quasinormal bases.
+ghost use Rattle.std.specs.Prelude.{◌≡◌, IfOk};
+
 use ht_pair::Element;
 use ht_quasi::quasinormal;
 use ht_text::read_rows;
@@ -8,11 +10,17 @@ use std::alloc::Global;
 use std::test::Fail;
 
 // The element of rows in a text, with the kinds of the words of its basis.
-pub(crate) fn typed_of(alloc: Global, n: u32, r: u32, text: &[u8]) -> Result<Typed, Fail> {
+pub(crate) fn typed_in(alloc: Global, shape: Shape, text: &[u8]) -> Result<Typed, Fail>
+    ensures { IfOk result (λ typed. typed.element.shape ≡ shape) }
+{
     let rows = read_rows(alloc, text)?.ok_or("no rows")?;
-    let element = Element::of_rows(alloc, Shape::new(n, r)?, rows)?;
+    let element = Element::of_rows(alloc, shape, rows)?;
     let quasi = quasinormal(alloc, &element, 65_536)?;
     Ok(types(alloc, &element, quasi)?)
+}
+
+pub(crate) fn typed_of(alloc: Global, n: u32, r: u32, text: &[u8]) -> Result<Typed, Fail> {
+    typed_in(alloc, Shape::new(n, r)?, text)
 }
 
 // The steps, the place and the letters; `-` for no reach.

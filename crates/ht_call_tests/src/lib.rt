@@ -9,13 +9,20 @@
 //! - `kinds`: kinds of words
 //! - `walks`: walks and exits
 //! - `parts`: orders, profiles and parts
+//! - `flows`: addresses
+//! - `shares`: words that share an orbit, and ponds
+//! - `conjugates`: cycles of two elements, and elements that conjugate
 //! - `numbers`: divisors and multiples
 #![tactic(auto)]
 
 #[cfg(test)]
 mod bases;
 #[cfg(test)]
+mod conjugates;
+#[cfg(test)]
 mod files;
+#[cfg(test)]
+mod flows;
 #[cfg(test)]
 mod images;
 #[cfg(test)]
@@ -30,5 +37,7 @@ mod numbers;
 mod operations;
 #[cfg(test)]
 mod parts;
+#[cfg(test)]
+mod shares;
 #[cfg(test)]
 mod walks;

@@ -1,6 +1,7 @@
 //! Each call that takes memory succeeds where there is memory.
 use ht_out::{FileEntry, Files, Library, MemLibrary};
-use ht_pair::{Element, Row, Rows, reduce_rows};
+use ht_pair::{Element, Row, Rows, copy_rows, reduce_rows};
+use ht_text::read_rows;
 use ht_word::{Letters, List, Name, Shape, Word};
 use std::alloc::Global;
 use std::test::Fail;
@@ -53,6 +54,30 @@ fn elements_find_memory(rt: HostRuntime) -> Result<(), Fail> {
     assert_eq!(rt; element.longest(), 0);
     assert_eq!(rt; element.shape(), shape);
     assert_eq!(rt; element.rows(alloc)?.len(), 1);
+    Ok(())
+}
+
+// Whether the rows are those of the text, in its order.
+fn are_rows(alloc: Global, rows: &[Row], text: &[u8]) -> Result<bool, Fail> {
+    let wanted = read_rows(alloc, text)?.ok_or("no rows")?;
+    let pairs = rows.iter().zip(wanted.as_slice());
+    let mut same = rows.len() == wanted.len();
+    for (row, other) in pairs {
+        same = same && row.from.same(&other.from) && row.to.same(&other.to);
+    }
+    Ok(same)
+}
+
+// They are in the order of their first words.
+#[test]
+fn rows_are_lent_and_copied(rt: HostRuntime) -> Result<(), Fail> {
+    let alloc = rt.alloc();
+    let given = read_rows(alloc, b"x1.22>x1.2;x1.1>x1.11;x1.21>x1.12")?.ok_or("no rows")?;
+    let element = Element::of_rows(alloc, Shape::new(2, 1)?, given)?;
+    let ordered = b"x1.1>x1.11;x1.21>x1.12;x1.22>x1.2";
+    assert!(rt; are_rows(alloc, element.as_rows(), ordered)?);
+    let copy = copy_rows(alloc, element.as_rows())?;
+    assert!(rt; are_rows(alloc, copy.as_slice(), ordered)?);
     Ok(())
 }
 

@@ -11,19 +11,21 @@ use std::alloc::Global;
 use std::process::Abort;
 use std::test::Fail;
 
-// An element that carries words from the repeller x1 to the attractor x4. One step carries x1.2 to no
+// The rows of an element that carries words from the repeller x1 to the attractor x4. One step carries x1.2 to no
 // word under the basis, and x1.21 to the passing word x2.
-fn passage(alloc: Global) -> Result<Typed, Fail> {
-    typed_of(
-        alloc,
-        2,
-        4,
-        b"x1.1>x1;x1.21>x2;x1.22>x3;x2>x4.21;x3>x4.22;x4>x4.1",
-    )
+pub(crate) const PASSAGE: &str = "x1.1>x1;x1.21>x2;x1.22>x3;x2>x4.21;x3>x4.22;x4>x4.1";
+
+pub(crate) fn passage(alloc: Global) -> Result<Typed, Fail> {
+    typed_of(alloc, 2, 4, PASSAGE.as_bytes())
 }
 
 // The word of a text. It is under a word of the basis that is no cycle word.
-fn infinite_word(rt: &impl Abort, alloc: Global, typed: &Typed, text: &str) -> Result<Word, Fail>
+pub(crate) fn infinite_word(
+    rt: &impl Abort,
+    alloc: Global,
+    typed: &Typed,
+    text: &str,
+) -> Result<Word, Fail>
     ensures word { IfOk result (IsWordOf typed.now.element.shape) }
     ensures infinite { IfOk result (IsUnderInfinite typed.now.element.shape typed.now.element.rows typed.now.quasi.basis.words) }
 {
