@@ -92,29 +92,60 @@ def some_elements(rng, n, r, most):
         found += [WITH_POND, turned(WITH_POND)] * 3
     if (n, r) == (2, 2):
         found += [ONE_ADDRESS, turned(ONE_ADDRESS)] * 3
-    pairs = [some_pair(rng, n, r, rng.randrange(2)) for _ in found]
-    return [product(n, r, [turned(by), rows, by]) for rows, by in zip(found, pairs)]
+    return found
+
+
+def parted(rng, n):
+    """A number of roots, and an element of which the first root repels and the second one attracts: leaves
+    of a tree under the first go by some steps each, often by as many, to leaves of that tree under the
+    second, often to the same ones. So there may be ponds in ponds."""
+    leaves = [(2,)]
+    for _ in range(rng.randrange(1, 4)):
+        leaf = leaves.pop(rng.randrange(len(leaves)))
+        leaves += [(*leaf, c) for c in range(1, n + 1)]
+    ends = list(leaves)
+    if rng.randrange(2):
+        i, j = rng.sample(range(len(ends)), 2)
+        ends[i], ends[j] = ends[j], ends[i]
+    steps, roots = rng.randrange(1, 4), 2
+    rows = [((1, (1,)), (1, ())), ((2, ()), (2, (1,)))] + [((1, (c,)), (2, (c,))) for c in range(3, n + 1)]
+    for leaf, end in zip(leaves, ends):
+        count = rng.randrange(1, 4) if rng.randrange(6) == 0 else steps
+        between = [(root, ()) for root in range(roots + 1, roots + count + 1)]
+        way = [(1, leaf), *between, (2, end)]
+        rows += zip(way, way[1:])
+        roots += count
+    return roots, rows
+
+
+def elements(rng):
+    """Groups with elements, each conjugated by another element."""
+    groups = [(2, 1, 7), (2, 2, 6), (2, 4, 5), (3, 1, 5), (3, 2, 3), (4, 1, 3), (9, 1, 2)]
+    found = [(n, r, rows) for n, r, most in groups for rows in some_elements(rng, n, r, most)]
+    found += [(n, *parted(rng, n)) for n in (2, 3) for _ in range(30)]
+    for n, r, rows in found:
+        by = some_pair(rng, n, r, rng.randrange(2))
+        yield n, r, product(n, r, [turned(by), rows, by])
 
 
 def main():
     rng = random.Random(2016)
     shared = apart = with_ponds = wrong = 0
-    for n, r, most in [(2, 1, 7), (2, 2, 6), (2, 4, 5), (3, 1, 5), (3, 2, 3), (4, 1, 3), (9, 1, 2)]:
-        for rows in some_elements(rng, n, r, most):
-            bound = f"let a = {rows_text(rows)}"
-            basis = [parse_word(word) for word in run(sys.argv[1], n, r, [bound, "basis a"])[1].split()]
-            asked = list(some_questions(rng, n, rows, basis))
-            lines = [f"share a {text(u)} {text(v)}" for u, v in asked]
-            answers = run(sys.argv[1], n, r, [bound, "ponds a", *lines])[1:]
-            faults = [ponds_fault(n, rows, basis, answers[0])]
-            faults += [share_fault(n, rows, u, v, answer) for (u, v), answer in zip(asked, answers[1:])]
-            shared += sum(answer not in ("share none", "share 0") for answer in answers[1:])
-            apart += answers.count("share none")
-            with_ponds += answers[0] != "none"
-            for line, answer, fault in zip(["ponds a", *lines], answers, faults):
-                if fault is not None:
-                    wrong += 1
-                    print(f"orbits: group {n} {r}, {rows_text(rows)}: {line} is answered {answer}: {fault}")
+    for n, r, rows in elements(rng):
+        bound = f"let a = {rows_text(rows)}"
+        basis = [parse_word(word) for word in run(sys.argv[1], n, r, [bound, "basis a"])[1].split()]
+        asked = list(some_questions(rng, n, rows, basis))
+        lines = [f"share a {text(u)} {text(v)}" for u, v in asked]
+        answers = run(sys.argv[1], n, r, [bound, "ponds a", *lines])[1:]
+        faults = [ponds_fault(n, rows, basis, answers[0])]
+        faults += [share_fault(n, rows, u, v, answer) for (u, v), answer in zip(asked, answers[1:])]
+        shared += sum(answer not in ("share none", "share 0") for answer in answers[1:])
+        apart += answers.count("share none")
+        with_ponds += answers[0] != "none"
+        for line, answer, fault in zip(["ponds a", *lines], answers, faults):
+            if fault is not None:
+                wrong += 1
+                print(f"orbits: group {n} {r}, {rows_text(rows)}: {line} is answered {answer}: {fault}")
     print(f"orbits: {shared} pairs of words in one orbit, {apart} not, {with_ponds} elements with ponds, {wrong} wrong")
     return 1 if wrong else 0
 

@@ -80,6 +80,26 @@ def rounded(words, length):
     return list(zip(froms, tos))
 
 
+def ponded(words):
+    """Of each four words the first repels, the last one attracts, and the two between them part from the
+    first and meet under the last: one pond of two steps."""
+    rows = []
+    for at in range(0, len(words) - 3, 4):
+        t, u, v, w = words[at:at + 4]
+        rows += [(behind(t, (1,)), t), (behind(t, (2, 1)), u), (behind(t, (2, 2)), v), (u, behind(w, (2, 1))), (v, behind(w, (2, 2))), (w, behind(w, (1,)))]
+    return rows + [(word, word) for word in words[len(words) // 4 * 4:]]
+
+
+def combed(words, depth):
+    """The first of these words repels, the last one attracts, and those between them are the leaves of a
+    comb of this depth under the first, and go to those of a comb under the last: ponds in ponds."""
+    first, *middle, last = words[:depth + 3]
+    leaves = [(2,) + (2,) * k + (1,) for k in range(depth)] + [(2,) * (depth + 1)]
+    rows = [(behind(first, (1,)), first)] + [(behind(first, z), w) for z, w in zip(leaves, middle)]
+    rows += [(w, behind(last, z)) for z, w in zip(leaves, middle)] + [(last, behind(last, (1,)))]
+    return rows + [(word, word) for word in words[depth + 3:]]
+
+
 def asked():
     """The name of an element, its rows, and what the answers to questions on it begin with."""
     words = words_of(12, 904)
@@ -94,16 +114,21 @@ def asked():
     yield "a chain of 4,998 words", chained(words), {
         "types": "x1.1111111111111 repeller 1 1;x1.1111111111112 passing 1:x1.2222222222222 4998:x1.11111111111112;",
         "parts p q": "parts 1 5001",
+        "ponds": "none",
         **ends,
     }
     yield "a chain of 2,048 words, each with a letter more", lengthened(words_of(11, 2), 11), {
+        "ponds": "none",
         "types": "x1.111111111111 repeller 1 1;x1.111111111112 passing 2048:x1.222222222222" + 2_047 * "1" + " 1:",
         **ends,
     }
     yield "a round of 2,048 attractors", rounded(words_of(11, 1), 11), {
         "types": "x1.111111111111 repeller 1 1;x1.111111111112 attractor 2048 " + 2_048 * "1" + ";",
+        "ponds": "none",
         **ends,
     }
+    yield "1,250 ponds of 5,000 words", ponded(words), {"ponds": "x1.11111111111112 2 x1.11111111111222;"}
+    yield "a comb of 1,000 ponds, one in the other", combed(words_of(10), 1_000), {"ponds": "x1.11111111112 2 x1.22222121212;"}
 
 
 def cases():
@@ -122,6 +147,9 @@ def cases():
     yield "a conjugator of two elements of 5,050 words on cycles of 1 to 100 words", "group 2 1\nload a a.ht\nload b b.ht\nconj h a b\n", cycles, 2, "conjugate x1"
     short = {"a.ht": cycles["a.ht"], "b.ht": file_text(cycled(words_of(12, 954), [1] * 50 + [2] * 2_500))}
     yield "two such elements of other lengths", "group 2 1\nload a a.ht\nload b b.ht\nconj h a b\n", short, 2, "not conjugate"
+    chain = {"a.ht": file_text(chained(words_of(12, 904)))}
+    for both, last in ("x1.11111111111112 x1.2222222222222", "4999"), ("x1.2222222222222 x1.11111111111112", "-4999"), ("x1.1111111111111 x1.222222222222", "none"):
+        yield f"share {last} of a chain of 4,998 words", f"group 2 1\nload a a.ht\nshare a {both}\n", chain, 0.5, f"share {last}"
     for name, rows, answers in asked():
         file = {"a.ht": file_text(rows)}
         for command, last in answers.items():
