@@ -1,15 +1,14 @@
-//! Semi-normal bases, the kinds of words, and what they tell of an element.
+//! Semi-normal bases, the kinds of words and their reaches, profiles and orders.
 ghost use Rattle.std.specs.Prelude.{◌≡◌, ℕ, List, Option};
 ghost use Rattle.ht_word.specs.declared.word.Word.{Word};
 ghost use Rattle.ht_word.specs.declared.shape.Shape.{Shape};
 ghost use Rattle.ht_pair.specs.declared.row.Row.{Row};
-ghost use Rattle.ht_pair.specs.Bases.{IsAllUnder, IsBasis};
+ghost use Rattle.ht_pair.specs.Bases.{IsAllUnder};
 ghost use Rattle.ht_pair.specs.Pairs.{IsPair};
 ghost use Rattle.ht_pair.specs.Actions.{Alike};
 ghost use Rattle.ht_pair.specs.SemiNormal.{IsQuasinormal, IsSemiNormal};
 ghost use Rattle.ht_pair.specs.Kinds.{IsCycle, IsAttractor, IsRepeller, IsPassing};
 ghost use Rattle.ht_pair.specs.Reaches.{HasAhead, HasBehind};
-ghost use Rattle.ht_pair.specs.Parts.{HasParts};
 ghost use Rattle.ht_pair.specs.Profiles.{IsProfile};
 ghost use Rattle.ht_pair.specs.Orders.{IsOrder, HasInfiniteOrder, IsPeriodicOrder};
 
@@ -41,11 +40,6 @@ pub fn a_word_has_one_kind()
 pub fn a_word_has_one_reach()
     ensures ahead { (shape : Shape) (p : List Row) (X : List Word) (x : Word) (reach other : Option (ℕ × Word)) → IsPair shape p → HasAhead shape p X x reach → HasAhead shape p X x other → reach ≡ other }
     ensures behind { (shape : Shape) (p : List Row) (X : List Word) (x : Word) (reach other : Option (ℕ × Word)) → IsPair shape p → HasBehind shape p X x reach → HasBehind shape p X x other → reach ≡ other }
-{}
-
-/// An element has one periodic and one infinite part.
-pub fn an_element_has_one_pair_of_parts()
-    ensures { (shape : Shape) (p : List Row) (X : List Word) → IsPair shape p → IsBasis shape X → (s t first second : List Row) → HasParts shape p X s t → HasParts shape p X first second → Alike shape s first × Alike shape t second }
 {}
 
 /// An element has one profile.

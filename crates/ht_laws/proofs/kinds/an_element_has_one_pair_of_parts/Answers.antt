@@ -1,5 +1,0 @@
-use Rattle.ht_pair.proofs.PartLaws.{parts_once}
-use Rattle.ht_laws.proofs.kinds.an_element_has_one_pair_of_parts.Goals as goal
-
-pub returns : goal.returns
-returns c = parts_once

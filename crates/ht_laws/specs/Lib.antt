@@ -1,0 +1,2 @@
+pub mod PowerAnswers
+pub mod Expansions
