@@ -10,4 +10,3 @@ pub mod SeedLaws
 pub mod CycleRowLaws
 pub mod MatchedLengthLaws
 pub mod MatchLaws
-pub mod PeriodicPartLaws

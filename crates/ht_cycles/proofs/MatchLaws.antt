@@ -28,12 +28,12 @@ use Rattle.ht_pair.proofs.PartLaws.{profile_once}
 use Rattle.ht_quasi.specs.declared.quasi.Quasi.{Quasi}
 use Rattle.ht_types.specs.TypedElements.{TypedValue, IsTyped}
 use Rattle.ht_types.specs.declared.kind.Kind.{Kind}
+use Rattle.ht_types.proofs.KnownParts.{periodic_part}
 use Rattle.ht_cycles.specs.Cycles.{group, ArePicked, AreSeeds, GoesOn, AreRounds}
 use Rattle.ht_cycles.specs.MatchedLengths.{AreOfLengths, IsFollowed, MatchLengths}
 use Rattle.ht_cycles.specs.Matches.{HaveOneProfile, IsMatch}
 use Rattle.ht_cycles.proofs.ConjugateProfileLaws.{ascending_free, on_profiles}
 use Rattle.ht_cycles.proofs.CycleRowLaws.{has_cycle_words, match_rounds}
-use Rattle.ht_cycles.proofs.PeriodicPartLaws.{periodic_part}
 use Rattle.ht_cycles.proofs.ProfileLaws.{has_some, with_length}
 use Rattle.ht_cycles.proofs.SeedLaws.{picked_seeds, goes_on}
 use Rattle.ht_cycles.proofs.MatchedLengthLaws.{match_more}

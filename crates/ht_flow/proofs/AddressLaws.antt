@@ -1,5 +1,5 @@
 -- Addresses: a word has one at most, and one that is carried under an attractor has one.
-use Rattle.std.proofs.Common.{◌≡◌, ◌≢◌, ℕ, zero, suc, ◌*◌, ◌<◌, ◌⊎◌, inl, inr, List, ◌++◌, refl, sym, ap, ◌∙◌, subst, arith, nat_cmp, Contains, ℤ, pos, negsuc, ◌+ℤ◌}
+use Rattle.std.proofs.Common.{◌≡◌, ◌≢◌, ℕ, zero, suc, ◌*◌, ◌<◌, ◌⊎◌, inl, inr, List, ◌++◌, refl, sym, ap, ◌∙◌, subst, subst₂, arith, nat_cmp, Contains, ◌↔◌, ℤ, pos, negsuc, neg_ℤ, ◌+ℤ◌}
 use Rattle.std.specs.Cmp.Lexicographic.{slice_cmp}
 use Rattle.std.specs.Prelude.{◌-ℤ◌}
 use Rattle.std.specs.Ordering.{ordering_then, ordering_reverse}
@@ -14,15 +14,16 @@ use Rattle.ht_word.specs.declared.word.Word.{Word}
 use Rattle.ht_word.proofs.WordLaws.{word_eq, word_cmp_total, after-append, word_rest}
 use Rattle.ht_pair.specs.Addresses.{BelongTogether, IsAddress}
 use Rattle.ht_pair.specs.Kinds.{IsAttractorWord}
+use Rattle.ht_pair.specs.Orbits.{ShareOrbit}
 use Rattle.ht_pair.specs.Pairs.{IsPair}
 use Rattle.ht_pair.specs.SemiNormal.{IsSemiNormal}
 use Rattle.ht_pair.specs.Steps.{Carries}
 use Rattle.ht_pair.specs.declared.row.Row.{Row}
-use Rattle.ht_pair.proofs.CarriesLaws.{carries_word, carries_extends, carries_add, carries_rest}
+use Rattle.ht_pair.proofs.CarriesLaws.{carries_word, carries_extends, carries_add, carries_back, carries_rest}
 use Rattle.ht_pair.proofs.KindLaws.{repeated, attractor_once}
 use Rattle.ht_types.proofs.PeriodicLaws.{carried_further}
 use Rattle.ht_types.proofs.TurnLaws.{HasSemiNormal}
-use Rattle.ht_flow.proofs.AttractorLaws.{IsAttractorOf, attractor_ahead, repeated_none, repeated_first, IsInPeriods, periods_of, belongs_both, on_round}
+use Rattle.ht_types.proofs.AttractorLaws.{IsAttractorOf, attractor_ahead, repeated_none, repeated_first, IsInPeriods, periods_of, belongs_both, on_round}
 
 -- ---- words in order
 
@@ -93,7 +94,7 @@ address_once shape p X pair semi u x y z w k j a b =
 -- ---- an address
 
 -- where steps lead along, the number of steps that are left changes by them
-pub address_along : (shape : Shape) (p : List Row) (X : List Word) → IsPair shape p → (j k : ℤ) (u v x : Word) (z : List ℕ) → Carries shape p j u v → IsAddress shape p X v x z k → IsAddress shape p X u x z (j +ℤ k)
+address_along : (shape : Shape) (p : List Row) (X : List Word) → IsPair shape p → (j k : ℤ) (u v x : Word) (z : List ℕ) → Carries shape p j u v → IsAddress shape p X v x z k → IsAddress shape p X u x z (j +ℤ k)
 address_along shape p X pair j k u v x z c a = record {
   listed = a.listed;
   steps = a.steps;
@@ -103,6 +104,24 @@ address_along shape p X pair j k u v x z c a = record {
   carries = carries_add shape p pair j k u v (x · z) c a.carries;
   short = a.short;
 }
+
+-- the addresses of two words that share an orbit are at one attractor with the same letters, and differ by the power
+pub address_shared : (shape : Shape) (p : List Row) (X : List Word) → IsPair shape p → IsSemiNormal shape p X → (u w x y : Word) (z v : List ℕ) (k j i : ℤ) → IsAddress shape p X u x z k → IsAddress shape p X w y v j → ShareOrbit shape p u w i → (x ≡ y) × (z ≡ v) × (i ≡ k -ℤ j)
+address_shared shape p X pair semi u w x y z v k j i a b carries =
+    let one = address_once shape p X pair semi u x y z v k (i +ℤ j) a (address_along shape p X pair i j u w y v carries b) in
+    (one.0, one.1, difference one.2)
+  where
+    difference : k ≡ i +ℤ j → i ≡ k -ℤ j
+    difference e = omega (arith, ints)
+
+-- and words with such addresses share one
+pub address_decides : (shape : Shape) (p : List Row) (X : List Word) → IsPair shape p → IsSemiNormal shape p X → (u w x y : Word) (z v : List ℕ) (k j : ℤ) → IsAddress shape p X u x z k → IsAddress shape p X w y v j → ((i : ℤ) × ShareOrbit shape p u w i) ↔ ((x ≡ y) × (z ≡ v))
+address_decides shape p X pair semi u w x y z v k j a b = (
+  (λ (i, carries). let s = address_shared shape p X pair semi u w x y z v k j i a b carries in (s.0, s.1)),
+  (λ (same, letters).
+      let there : Carries shape p j w (x · z) = subst₂ (λ t r. Carries shape p j w (t · r)) (sym same) (sym letters) b.carries in
+      (k +ℤ neg_ℤ j, carries_add shape p pair k (neg_ℤ j) u (x · z) w a.carries (carries_back shape p pair j w (x · z) there))),
+)
 
 -- x is least among those on the round of a, so among those that belong together with it
 pub head_least : {shape : Shape} {p : List Row} {X : List Word} {a : Word} {m : ℕ} {G : List ℕ} → HasSemiNormal shape p X → IsAttractorOf shape p X a m G → (i : ℤ) (x : Word) (c : List ℕ) → Carries shape p i a (x · c)

@@ -24,7 +24,7 @@ use Rattle.ht_flow.specs.Flowing.{FlowsUnder, IsAddressed}
 use Rattle.ht_flow.specs.Rounds.{IsHead, BeginsTimes}
 use Rattle.ht_flow.specs.declared.round.Stage.{Stage}
 use Rattle.ht_flow.proofs.AddressLaws.{head_least}
-use Rattle.ht_flow.proofs.AttractorLaws.{IsAttractorOf}
+use Rattle.ht_types.proofs.AttractorLaws.{IsAttractorOf}
 use Rattle.ht_flow.proofs.FlowingLaws.{walk_flows}
 use Rattle.ht_flow.proofs.HeadLaws.{round_back, round_short, not_less}
 use Rattle.ht_flow.proofs.StripLaws.{stripped_carries}

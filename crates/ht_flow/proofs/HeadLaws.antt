@@ -23,7 +23,7 @@ use Rattle.ht_types.proofs.PeriodicLaws.{carried_further}
 use Rattle.ht_types.proofs.TurnLaws.{HasSemiNormal}
 use Rattle.ht_flow.specs.Rounds.{IsAttractorAt, IsStage, IsNextStage, IsHead, IsSooner}
 use Rattle.ht_flow.specs.declared.round.Stage.{Stage}
-use Rattle.ht_flow.proofs.AttractorLaws.{IsAttractorOf, moved_ahead}
+use Rattle.ht_types.proofs.AttractorLaws.{IsAttractorOf, moved_ahead}
 
 -- the attractor at a place
 pub attractor_of : {shape : Shape} {p : List Row} {X : List Word} {at m : ℕ} {by : List ℕ} → (a : IsAttractorAt shape p X at m by) → IsAttractorOf shape p X a.above m by

@@ -1,4 +1,3 @@
-pub mod AttractorLaws
 pub mod AddressLaws
 pub mod FlowingLaws
 pub mod HeadLaws

@@ -1,5 +1,5 @@
 //! Products.
-ghost use Rattle.std.specs.Prelude.{◌≡◌, ℕ, List, IfOk, OnOk, IsErrOf};
+ghost use Rattle.std.specs.Prelude.{◌≡◌, ◌↔◌, ℕ, List, IfOk, OnOk, IsErrOf};
 ghost use Rattle.ht_pair.specs.declared.row.Row.{Row};
 ghost use Rattle.ht_pair.specs.Pairs.{IsPair};
 ghost use Rattle.ht_pair.specs.Sizes.{IsLarge};
@@ -44,7 +44,7 @@ fn product_rows(alloc: Global, a: &Element, b: &Element) -> Result<Rows, NoMemor
 /// Why a pair is no element within the limits: it is too large, or memory is wanting. Constant time.
 pub fn op_fault(fault: RowsFault) -> OpFault
     requires { IsPairFault fault }
-    ensures { (rows letters : ℕ) → result ≡ op_fault.Large rows letters → fault ≡ rows_fault.Large rows letters }
+    ensures { (rows letters : ℕ) → (result ≡ op_fault.Large rows letters) ↔ (fault ≡ rows_fault.Large rows letters) }
 {
     match fault {
         RowsFault::Large { rows, letters } => OpFault::Large { rows, letters },

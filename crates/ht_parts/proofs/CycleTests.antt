@@ -1,5 +1,5 @@
 -- Whether a word of a basis is a cycle word, told from its kind.
-use Rattle.std.proofs.Common.{◌≡◌, ℕ, ◌+◌, ◌≤◌, ◌<◌, ◌↔◌, inl, inr, Bool, true, false, IsTrue, List, [], length, Some, slice_get, refl, sym, ap, ◌∙◌, subst, All, Contains, take, drop, take-append-drop}
+use Rattle.std.proofs.Common.{◌≡◌, ◌≢◌, ℕ, ◌+◌, ◌≤◌, ◌<◌, ◌↔◌, inl, inr, Bool, true, false, IsTrue, List, [], length, Some, slice_get, refl, sym, ap, ◌∙◌, subst, All, Contains, take, drop, take-append-drop}
 use Rattle.std.proofs.lemmas.List.Elements.{All-more, All-contains, Contains-append_left}
 use Rattle.std.proofs.lemmas.Option.{get_or_from_slice_get}
 use Rattle.std.specs.declared.cmp.Ordering.TheVariants.{Less}
@@ -15,6 +15,7 @@ use Rattle.ht_pair.specs.Orders.{IsPeriodicOrder}
 use Rattle.ht_pair.specs.Pairs.{IsPair}
 use Rattle.ht_pair.specs.Parts.{IsInfinitePart}
 use Rattle.ht_pair.specs.declared.row.Row.{Row}
+use Rattle.ht_pair.proofs.PartLaws.{selected_once}
 use Rattle.ht_quasi.specs.declared.quasi.Quasi.{Quasi}
 use Rattle.ht_quasi.proofs.RoundLaws.{something_at}
 use Rattle.ht_quasi.proofs.StepLaws.{listed_at}
@@ -23,6 +24,7 @@ use Rattle.ht_types.specs.declared.kind.Kind.TheVariants.{Cycle}
 use Rattle.ht_types.specs.TypedElements.{IsTyped}
 use Rattle.ht_types.specs.WordKinds.{HasKind, AreKinds}
 use Rattle.ht_types.proofs.CycleKindLaws.{other_kind, cycle_or_not}
+use Rattle.ht_types.proofs.KnownParts.{infinite_part}
 use Rattle.ht_parts.proofs.OrderLaws.{periodic_same, periodic_more, more_at, periodic_wide}
 
 -- a word of the kind of a cycle is on one of that length
@@ -76,6 +78,14 @@ pub some_infinite : (shape : Shape) (p : List Row) (X : List Word) (place : ℕ)
 some_infinite shape p X place test inside tested failed none =
     let x = something_at X place inside in
     Contains-nil x.0 ((none.same x.0).1 (listed_at X place x.0 x.1, λ cycle. let passed : test ≡ true = (tested x.0 x.1).1 cycle in cc))
+
+-- where the infinite part isn't empty it has words
+pub infinite_has_words : (element : ElementValue) (quasi : Quasi) (kinds : List Kind) → IsTyped element quasi kinds → ¬ IsInfinitePart element.shape element.rows quasi.basis.words [] → (I : List Word) × IsInfinitePart element.shape element.rows quasi.basis.words I × (I ≢ [])
+infinite_has_words element quasi kinds typed other = let part = infinite_part element quasi kinds typed in (part.0, part.1, (λ e. other (subst (IsInfinitePart element.shape element.rows quasi.basis.words) e part.1)))
+
+-- and only there, as it is one list
+pub infinite_has_none : (shape : Shape) (p : List Row) (X : List Word) → IsInfinitePart shape p X [] → (I : List Word) × IsInfinitePart shape p X I × (I ≢ []) → ⊥
+infinite_has_none shape p X none (I, part, some) = some (selected_once (λ x. ¬ IsCycleWord shape p x) X I [] part none)
 
 -- ---- the least common multiple, kind by kind
 

@@ -1,5 +1,5 @@
 //! Whether an element is periodic; its order, and that of its periodic part.
-ghost use Rattle.std.specs.Prelude.{◌≡◌, ◌<◌, ◌^◌, ◌↔◌, ℕ, Some, [], length, slice_get, IsTrue, MatchOption};
+ghost use Rattle.std.specs.Prelude.{◌≡◌, ◌≢◌, ◌<◌, ◌^◌, ◌↔◌, ℕ, List, Some, [], length, slice_get, IsTrue, IsFalse, MatchOption};
 ghost use Rattle.ht_num.specs.Numbers.{IsWide};
 ghost use Rattle.ht_word.specs.declared.word.Word.{Word};
 ghost use Rattle.ht_pair.specs.Kinds.{IsCycleWord};
@@ -13,8 +13,10 @@ use ht_types::{Kind, Order, Typed};
 /// Whether the infinite part is empty: whether each word of the basis is a cycle word. One pass; takes
 /// no memory.
 pub fn is_periodic(t: &Typed) -> bool
-    ensures { IsTrue result ↔ IsInfinitePart t.now.element.shape t.now.element.rows t.now.quasi.basis.words [] }
+    ensures empty { IsTrue result ↔ IsInfinitePart t.now.element.shape t.now.element.rows t.now.quasi.basis.words [] }
+    ensures some { IsFalse result → (I : List Word) × IsInfinitePart t.now.element.shape t.now.element.rows t.now.quasi.basis.words I × (I ≢ []) }
 {
+    t.keeps_kinds();
     for place in 0..t.quasi().basis.words().len() {
         if !is_cycle(t, place) {
             return false;
@@ -26,7 +28,8 @@ pub fn is_periodic(t: &Typed) -> bool
 /// The order. `Infinite` exactly where the infinite part isn't empty; `Wide` exactly where it is and
 /// the order exceeds 2^127-1. At most two passes over the words; takes no memory.
 pub fn order(t: &Typed) -> Order
-    ensures { HasOrder t.now.element.shape t.now.element.rows result }
+    ensures order { HasOrder t.now.element.shape t.now.element.rows result }
+    ensures infinite { (result ≡ Order.Infinite) ↔ ((I : List Word) × IsInfinitePart t.now.element.shape t.now.element.rows t.now.quasi.basis.words I × (I ≢ [])) }
 {
     t.keeps_kinds();
     if !is_periodic(t) {

@@ -1,3 +1,5 @@
+pub mod MirrorLaws
+pub mod CarriedLaws
 pub mod YLaws
 pub mod MarkLaws
 pub mod ClassLaws

@@ -5,23 +5,20 @@ use Rattle.ht_word.specs.declared.shape.Shape.{Shape}
 use Rattle.ht_word.specs.declared.word.Word.{Word}
 use Rattle.ht_word.specs.Words.{◌·◌}
 use Rattle.ht_word.proofs.WordLaws.{after-nil, after_cancel, under_refl, under_after}
-use Rattle.ht_pair.specs.Actions.{Alike}
 use Rattle.ht_pair.specs.BadChains.{Splits as SplitsIn, IsJoined, LeadsToSplit, ComesFromJoined}
 use Rattle.ht_pair.specs.HeldBases.{IsHeldBasis}
-use Rattle.ht_pair.specs.Pairs.{IsPair, turned}
+use Rattle.ht_pair.specs.Pairs.{IsPair}
 use Rattle.ht_pair.specs.Products.{IsPower}
-use Rattle.ht_pair.specs.SemiNormal.{CarriesUnder}
 use Rattle.ht_pair.specs.Steps.{Carries}
 use Rattle.ht_pair.specs.declared.row.Row.{Row}
-use Rattle.ht_pair.proofs.AlikePowerLaws.{carries_alike}
 use Rattle.ht_pair.proofs.BasisLaws.{prefix_free_same, some_at}
 use Rattle.ht_pair.proofs.CarriesLaws.{carries_single, carries_back}
-use Rattle.ht_pair.proofs.MovesLaws.{turned_pair}
 use Rattle.ht_quasi.specs.declared.step.Step.{Step}
 use Rattle.ht_quasi.specs.declared.step.Step.TheVariants.{Splits, Next, Descends}
 use Rattle.ht_quasi.specs.Rounds.{GoesTo, GoesBelow, HasStep, AreSteps, IsMarked}
 use Rattle.ht_quasi.specs.Walks.{AreInside, LeadsIn, FollowsIn, AreBadPlaces}
 use Rattle.ht_quasi.proofs.ChainLaws.{leads_within}
+use Rattle.ht_quasi.proofs.MirrorLaws.{inverse_mirrors, under_to, under_from}
 use Rattle.ht_quasi.proofs.StepLaws.{listed_at, same_at}
 
 -- x is joined, and p carries it through words of X to one that splits
@@ -47,28 +44,13 @@ pub record AreBadMarks (shape : Shape) (p : List Row) (X : List Word) (marks : L
 -- ---- steps back
 
 -- a word splits by the inverse exactly where it is joined
-alike_turned : (shape : Shape) (p q : List Row) → IsPower shape p (negsuc 0) q → Alike shape (turned p) q
-alike_turned shape p q power = λ w v v' h m m'. power.stepped w v v' h (w, refl, m) m'
-
-carried_back : (shape : Shape) (p q : List Row) → IsPair shape p → IsPower shape p (negsuc 0) q → (X : List Word) (x : Word) → CarriesUnder shape p (negsuc 0) x X → CarriesUnder shape q (pos 1) x X
-carried_back shape p q pair power X x c = record {
-  to = c.to;
-  carries = carries_alike shape (turned p) q (turned_pair shape p pair) power.pair (alike_turned shape p q power) (pos 1) x c.to (record { word = c.carries.word; carried = c.carries.carried });
-  under = c.under;
-}
-
-carried_by_inverse : (shape : Shape) (p q : List Row) → IsPair shape p → IsPower shape p (negsuc 0) q → (X : List Word) (x : Word) → CarriesUnder shape q (pos 1) x X → CarriesUnder shape p (negsuc 0) x X
-carried_by_inverse shape p q pair power X x c =
-    let d = carries_alike shape q (turned p) power.pair (turned_pair shape p pair) (λ w v v' h m m'. sym (alike_turned shape p q power w v' v h m' m)) (pos 1) x c.to c.carries in
-    record { to = c.to; carries = record { word = d.word; carried = d.carried }; under = c.under }
-
 joined_from_split : (shape : Shape) (p q : List Row) → IsPair shape p → IsPower shape p (negsuc 0) q → (X : List Word) (x : Word) → SplitsIn shape q X x → IsJoined shape p X x
 unfolding SplitsIn IsJoined
-joined_from_split shape p q pair power X x s = λ c. s (carried_back shape p q pair power X x c)
+joined_from_split shape p q pair power X x s = λ c. s (under_from (inverse_mirrors shape p q pair power) (pos 1) x X c)
 
 split_from_joined : (shape : Shape) (p q : List Row) → IsPair shape p → IsPower shape p (negsuc 0) q → (X : List Word) (x : Word) → IsJoined shape p X x → SplitsIn shape q X x
 unfolding SplitsIn IsJoined
-split_from_joined shape p q pair power X x j = λ c. j (carried_by_inverse shape p q pair power X x c)
+split_from_joined shape p q pair power X x j = λ c. j (under_to (inverse_mirrors shape p q pair power) (pos 1) x X c)
 
 -- ---- steps and what is carried
 

@@ -1,6 +1,5 @@
 -- What a canonical pair does with the words of a basis, told from its rows.
-use Rattle.std.proofs.Common.{◌≡◌, ℕ, zero, suc, ◌+◌, ◌⊎◌, inl, inr, List, [], ◌∷◌, ◌++◌, length, Some, slice_get, refl, sym, ap, ◌∙◌, subst, arith, Contains, pos}
-use Rattle.std.proofs.lemmas.List.{length-append}
+use Rattle.std.proofs.Common.{◌≡◌, ℕ, zero, suc, ◌⊎◌, inl, inr, List, [], ◌∷◌, ◌++◌, length, Some, slice_get, refl, sym, ap, ◌∙◌, subst, arith, Contains, pos}
 use Rattle.std.proofs.lemmas.Option.{slice_get_within, get_or_from_slice_get}
 use Rattle.ht_word.specs.Words.{IsWordOf, ◌·◌, IsUnderSome}
 use Rattle.ht_word.specs.declared.shape.Shape.{Shape}
@@ -8,15 +7,13 @@ use Rattle.ht_word.specs.declared.word.Word.{Word}
 use Rattle.ht_word.proofs.WordLaws.{length-after, under_same}
 use Rattle.ht_pair.specs.Actions.{Moves, IsCanonical}
 use Rattle.ht_pair.specs.BadChains.{Splits}
-use Rattle.ht_pair.specs.HeldBases.{IsPlaceAbove, IsHeldBasis}
+use Rattle.ht_pair.specs.HeldBases.{IsPlaceAbove}
 use Rattle.ht_pair.specs.Steps.{Carries}
 use Rattle.ht_pair.specs.declared.row.Row.{Row}
 use Rattle.ht_pair.proofs.CanonicalLaws.{Everywhere, reduced_pair}
 use Rattle.ht_pair.proofs.CarriesLaws.{carries_single, carries_from_steps}
 use Rattle.ht_pair.proofs.ReducedLaws.{reduced_moves}
-use Rattle.ht_quasi.specs.declared.step.Step.{Step}
-use Rattle.ht_quasi.specs.Kept.{HaveSteps}
-use Rattle.ht_quasi.specs.Rounds.{GoesTo, GoesBelow, HasStep, AreSteps}
+use Rattle.ht_quasi.specs.Rounds.{GoesTo, GoesBelow}
 
 -- a canonical pair carries by one step what it moves
 pub moved_carries : (shape : Shape) (p : List Row) → IsCanonical shape p → (u v : Word) → IsWordOf shape u → Moves p u v → Carries shape p (pos 1) u v
@@ -67,31 +64,9 @@ goes_below shape p canonical X W u v y place h m above are here other =
       carries = subst (Carries shape p (pos 1) u) above.above.is (moved_carries shape p canonical u v h m);
     }
 
--- ---- the steps of all words
-
 -- what stands in a list with one more entry
 pub at_push : {T : Type 0} (xs : List T) (x y : T) (place : ℕ) → slice_get (xs ++ x ∷ []) place ≡ Some y → (slice_get xs place ≡ Some y) ⊎ ((place ≡ length xs) × (x ≡ y))
 at_push [] x y zero e = inr (refl, cc)
 at_push [] x y (suc place) e = absurd cc
 at_push (z ∷ xs) x y zero e = inl e
 at_push (z ∷ xs) x y (suc place) e = elim (at_push xs x y place e) [ inl h ↦ inl h | inr h ↦ inr (ap suc h.0, h.1) ]
-
-pub no_steps : (shape : Shape) (p : List Row) (X : List Word) (steps : List Step) → steps ≡ [] → HaveSteps shape p X 0 steps
-no_steps shape p X steps e = subst (HaveSteps shape p X 0) (sym e) (record { many = refl; each = λ place x step here at. absurd (none place step at) })
-  where
-    none : (place : ℕ) (step : Step) → slice_get [] place ≡ Some step → ⊥
-    none place step e = cc
-
-pub one_more_step : (shape : Shape) (p : List Row) (X : List Word) (count : ℕ) (steps new : List Step) (x : Word) (step : Step) → HaveSteps shape p X count steps → slice_get X count ≡ Some x → HasStep shape p X x step
-    → new ≡ steps ++ step ∷ [] → HaveSteps shape p X (count + 1) new
-one_more_step shape p X count steps new x step h here has e = subst (HaveSteps shape p X (count + 1)) (sym e) (record {
-  many = omega (arith, h.many, length-append steps (step ∷ []));
-  each = λ place y s at_X at. elim (at_push steps step s place at) [
-    | inl k ↦ h.each place y s at_X k
-    | inr k ↦ (let same : y ≡ x = let g : Some y ≡ Some x = sym at_X ∙ ap (λ i. slice_get X i) (k.0 ∙ h.many) ∙ here in cc in
-        subst (HasStep shape p X y) k.1 (subst (λ t. HasStep shape p X t step) (sym same) has))
-  ];
-})
-
-pub all_steps : (shape : Shape) (p : List Row) (X : List Word) (count : ℕ) (steps : List Step) → IsHeldBasis shape X → count ≡ length X → HaveSteps shape p X count steps → AreSteps shape p X steps
-all_steps shape p X count steps held e h = record { held = held; many = h.many ∙ e; each = h.each }

@@ -1,15 +1,18 @@
 -- Where the steps of a word come to, one after another and over ponds.
-use Rattle.std.proofs.Common.{◌≡◌, ℕ, ◌+◌, ◌-◌, ◌≤◌, ◌<◌, ◌↔◌, List, refl, sym, subst, arith, pos, ◌+ℤ◌}
+use Rattle.std.proofs.Common.{◌≡◌, ℕ, ◌+◌, ◌-◌, ◌≤◌, ◌<◌, ◌↔◌, List, refl, sym, subst, arith, ℤ, pos, ◌+ℤ◌}
 use Rattle.std.proofs.lemmas.Int.{ints}
-use Rattle.ht_word.specs.Words.{◌·◌, IsWordOf}
+use Rattle.ht_word.specs.Words.{◌·◌, IsWordOf, IsUnderSome}
 use Rattle.ht_word.specs.declared.shape.Shape.{Shape}
 use Rattle.ht_word.specs.declared.word.Word.{Word}
+use Rattle.ht_word.proofs.WordLaws.{under_after, after_cancel_right, word_rest}
 use Rattle.ht_pair.specs.Orbits.{IsPond}
 use Rattle.ht_pair.specs.Pairs.{IsPair}
 use Rattle.ht_pair.specs.SemiNormal.{CarriesUnder}
 use Rattle.ht_pair.specs.Steps.{Carries}
 use Rattle.ht_pair.specs.declared.row.Row.{Row}
-use Rattle.ht_pair.proofs.CarriesLaws.{carries_single, carries_itself, carries_rest, carries_sum}
+use Rattle.ht_pair.proofs.BasisLaws.{some_at}
+use Rattle.ht_pair.proofs.CarriesLaws.{carries_single, carries_itself, carries_extends, carries_rest, carries_sum}
+use Rattle.ht_quasi.proofs.StepLaws.{listed_at}
 use Rattle.ht_types.specs.Flows.{IsPlaced}
 use Rattle.ht_types.specs.declared.walk.Walk.{Walk}
 use Rattle.ht_share.specs.InnerWords.{IsInner}
@@ -47,8 +50,19 @@ over_pond shape p pair X u w v k j start carries pond placed = record {
   carries = subst (Carries shape p (pos (k + j)) u) placed.is (carries_sum shape p pair (pos k) (pos j) (pos (k + j)) refl u w v carries pond.carries);
 }
 
--- steps carry a word to another just where this is what they come to
-pub comes_just : (shape : Shape) (p : List Row) → IsPair shape p → (X : List Word) (u v word : Word) (k : ℕ) (walk : Walk) → (c : ComesTo shape p X u walk) → walk.steps ≡ k → word ≡ c.above · walk.rest → (word ≡ v) ↔ Carries shape p (pos k) u v
-comes_just shape p pair X u v word k walk c all is =
-    let there : Carries shape p (pos k) u word = subst (λ i. Carries shape p (pos i) u word) all (subst (Carries shape p (pos walk.steps) u) (sym is) c.carries) in
-    ((λ same. subst (Carries shape p (pos k) u) same there), carries_single shape p pair (pos k) u word v there)
+-- what steps come to is under X
+pub comes_under : (shape : Shape) (p : List Row) (X : List Word) (u : Word) (k : ℕ) (walk : Walk) → ComesTo shape p X u walk → walk.steps ≡ k → CarriesUnder shape p (pos k) u X
+comes_under shape p X u k walk c all = record {
+  to = c.above · walk.rest;
+  carries = subst (λ i. Carries shape p (pos i) u (c.above · walk.rest)) all c.carries;
+  under = some_at X c.above (c.above · walk.rest) (listed_at X walk.to c.above c.here) (under_after c.above walk.rest);
+}
+
+-- a power that carries one word with letters behind it to another with these letters carries the one to a word under X, if to any, just where to the other
+pub agreed : (shape : Shape) (p : List Row) → IsPair shape p → (X : List Word) (u v : Word) (k : ℤ) (z : List ℕ) → IsUnderSome v X → Carries shape p k (u · z) (v · z) → CarriesUnder shape p k u X ↔ Carries shape p k u v
+agreed shape p pair X u v k z under both = (
+  λ s.
+      let longer = carries_extends shape p k u s.to z (word_rest shape u z both.word) s.carries in
+      subst (Carries shape p k u) (after_cancel_right s.to v z (carries_single shape p pair k (u · z) (s.to · z) (v · z) longer both)) s.carries,
+  λ c. record { to = v; carries = c; under = under },
+)

@@ -1,5 +1,5 @@
 -- Words under the infinite part that share an orbit: their addresses tell by which power. X is a semi-normal basis of p.
-use Rattle.std.proofs.Common.{◌≡◌, ◌≢◌, ℕ, zero, suc, ◌<◌, ◌^◌, List, [], ◌++◌, Some, None, refl, ap, ◌∙◌, subst, subst₂, arith, ℤ, pos, negsuc, neg_ℤ, ◌+ℤ◌, to_z, of_z}
+use Rattle.std.proofs.Common.{◌≡◌, ◌≢◌, ℕ, zero, suc, ◌<◌, ◌^◌, List, [], ◌++◌, Some, None, slice_get, refl, sym, ap, ◌∙◌, subst, subst₂, arith, ℤ, pos, negsuc, neg_ℤ, ◌+ℤ◌, to_z, of_z}
 use Rattle.std.specs.Prelude.{◌-ℤ◌, nat_abs}
 use Rattle.std.specs.Int.{w128}
 use Rattle.std.proofs.lemmas.Int.{ints, fits_signed_from_abs, to_z-of_z}
@@ -9,35 +9,20 @@ use Rattle.ht_word.specs.declared.shape.Shape.{Shape}
 use Rattle.ht_word.specs.declared.word.Word.{Word}
 use Rattle.ht_word.proofs.WordLaws.{after-append, after-nil, letters_append}
 use Rattle.ht_pair.specs.Kinds.{IsCycleWord}
-use Rattle.ht_pair.specs.Pairs.{IsPair}
-use Rattle.ht_pair.specs.SemiNormal.{IsSemiNormal}
 use Rattle.ht_pair.specs.Steps.{Carries}
 use Rattle.ht_pair.specs.declared.row.Row.{Row}
 use Rattle.ht_pair.proofs.BasisLaws.{basis_single}
-use Rattle.ht_pair.proofs.CarriesLaws.{carries_add, carries_back, carries_extends}
+use Rattle.ht_pair.proofs.CarriesLaws.{carries_add, carries_back, carries_extends, carries_sum}
 use Rattle.ht_types.specs.CycleWords.{IsUnderCycle}
 use Rattle.ht_types.specs.Flows.{IsUnderInfinite}
 use Rattle.ht_types.specs.Shares.{IsShare}
 use Rattle.ht_types.proofs.CourseLaws.{same_place}
-use Rattle.ht_types.proofs.PeriodicLaws.{periodic_word_either}
 use Rattle.ht_types.proofs.TurnLaws.{HasSemiNormal, infinite_kept}
 use Rattle.ht_flow.specs.Flowing.{FlowsUnder, IsAddressed}
-use Rattle.ht_flow.proofs.AddressLaws.{address_once, address_along}
+use Rattle.ht_flow.proofs.AddressLaws.{address_shared}
 use Rattle.ht_share.specs.Exits.{AreExits}
 
--- ---- one power
-
--- one power at most carries a word under the infinite part to a word
-pub share_once : (shape : Shape) (p : List Row) (X : List Word) → IsPair shape p → IsSemiNormal shape p X → (u v : Word) (j k : ℤ) → IsUnderInfinite shape p X u → Carries shape p j u v → Carries shape p k u v → j ≡ k
-share_once shape p X pair semi u v j k under c d = by (j +ℤ neg_ℤ k) refl (carries_add shape p pair j (neg_ℤ k) u v u c (carries_back shape p pair k u v d))
-  where
-    back : (i : ℤ) → i ≢ pos 0 → Carries shape p i u u → ⊥
-    back i other round = under.infinite.1 (periodic_word_either shape p pair X semi i u under.above other under.infinite.0 under.under round)
-
-    by : (i : ℤ) → j +ℤ neg_ℤ k ≡ i → Carries shape p i u u → j ≡ k
-    by (pos zero) e round = omega (arith, ints)
-    by (pos (suc n)) e round = absurd (back (pos (suc n)) (λ h. cc) round)
-    by (negsuc n) e round = absurd (back (negsuc n) (λ h. cc) round)
+-- ---- the two parts
 
 -- no word is under both parts
 infinite_only : {shape : Shape} {p : List Row} {X : List Word} {u : Word} → HasSemiNormal shape p X → IsUnderInfinite shape p X u → (m : ℕ) → IsUnderCycle shape p X u m → ⊥
@@ -63,11 +48,15 @@ exits_joined shape p X u v y z hy hz first second = record {
 pub addresses_along : {shape : Shape} {p : List Row} {X : List Word} → HasSemiNormal shape p X → (u v : Word) (z : List ℕ) (at to : ℕ) (rest left : List ℕ) (steps more i : ℤ) → IsLetters shape z
     → IsAddressed shape p X (u · z) at rest steps → IsAddressed shape p X (v · z) to left more → Carries shape p i u v → (at ≡ to) × (rest ≡ left) × (i ≡ steps -ℤ more)
 addresses_along {shape} {p} {X} h u v z at to rest left steps more i hz a b carries =
-    let one = address_once shape p X h.pair h.semi (u · z) a.above b.above rest left steps (i +ℤ more) a.address (address_along shape p X h.pair i more (u · z) (v · z) b.above left (carries_extends shape p i u v z hz carries) b.address) in
-    (same_place X h.semi.basis.prefix_free at to a.above b.above a.here b.here one.0, one.1, difference one.2)
-  where
-    difference : steps ≡ i +ℤ more → i ≡ steps -ℤ more
-    difference e = omega (arith, ints)
+    let one = address_shared shape p X h.pair h.semi (u · z) (v · z) a.above b.above rest left steps more i a.address b.address (carries_extends shape p i u v z hz carries) in
+    (same_place X h.semi.basis.prefix_free at to a.above b.above a.here b.here one.0, one.1, one.2)
+
+-- words whose addresses with letters behind them are at one place with one rest are carried the one to the other with these letters
+pub addresses_behind : {shape : Shape} {p : List Row} {X : List Word} → HasSemiNormal shape p X → (u v : Word) (at to : ℕ) (rest left : List ℕ) (steps more : ℤ) → at ≡ to → rest ≡ left → IsAddressed shape p X u at rest steps → IsAddressed shape p X v to left more → Carries shape p (steps -ℤ more) u v
+addresses_behind {shape} {p} {X} h u v at to rest left steps more places rests a b =
+    let one : a.above ≡ b.above = (let k : Some a.above ≡ Some b.above = sym a.here ∙ ap (λ i. slice_get X i) places ∙ b.here in cc) in
+    let first : Carries shape p steps u (b.above · left) = subst₂ (λ x z. Carries shape p steps u (x · z)) one rests a.address.carries in
+    carries_sum shape p h.pair steps (neg_ℤ more) (steps -ℤ more) (omega (arith, ints)) u (b.above · left) v first (carries_back shape p h.pair more v (b.above · left) b.address.carries)
 
 -- ---- the share
 

@@ -25,7 +25,7 @@ use Rattle.ht_types.specs.declared.walk.Walk.{Walk}
 use Rattle.ht_types.specs.Flows.{IsExit, IsPlaced}
 use Rattle.ht_types.proofs.OnwardLaws.{early_under}
 use Rattle.ht_types.proofs.TurnLaws.{HasSemiNormal}
-use Rattle.ht_flow.proofs.AttractorLaws.{attractor_ahead}
+use Rattle.ht_types.proofs.AttractorLaws.{attractor_ahead}
 use Rattle.ht_share.specs.InnerWords.{IsInner}
 use Rattle.ht_share.specs.PondWalks.{ComesTo, IsNone, IsNext, IsSettled, IsEnough}
 
@@ -277,9 +277,10 @@ settled {shape} {p} {X} h u w walk c positive s none =
     let one : s.above ≡ c.above = (let k : Some s.above ≡ Some c.above = sym s.here ∙ c.here in cc) in
     never_back h walk.steps u c.above w walk.rest positive (listed_at X walk.to c.above c.here) (subst (StaysAhead shape p X) one s.ahead) c.carries s.long none
 
--- after enough steps an inner word is never back
-pub enough_steps : {shape : Shape} {p : List Row} {X : List Word} → HasSemiNormal shape p X → (u : Word) (exit : Exit) (most : ℕ) → IsInner shape p X u → IsExit shape p X Ahead u exit → IsEnough shape p X exit most → IsNone shape p X u most → (k : ℕ) (v : Word) → ¬ IsPond shape p X u k v
-enough_steps {shape} {p} {X} h u exit most inner e enough none =
+-- after enough steps the walk of an inner word has settled, at the exit's attractor
+pub settles : {shape : Shape} {p : List Row} {X : List Word} → HasSemiNormal shape p X → (u : Word) (exit : Exit) (walk : Walk) (most : ℕ) → IsInner shape p X u → IsExit shape p X Ahead u exit → IsEnough shape p X exit most → ComesTo shape p X (u · exit.letters) walk → walk.steps ≡ most
+    → (1 ≤ walk.steps) × IsSettled shape p X (length exit.letters) walk
+settles {shape} {p} {X} h u exit walk most inner e enough c all =
     let x = enough.above in
     let one : e.above ≡ x = (let k : Some e.above ≡ Some x = sym e.walked.here ∙ enough.here in cc) in
     let listed = listed_at X exit.to x enough.here in
@@ -289,9 +290,18 @@ enough_steps {shape} {p} {X} h u exit most inner e enough none =
     let rounds = carries_times shape p h.pair enough.period x enough.by enough.attractor.lengthens.1 count in
     let hz = word_rest shape x exit.rest (carries_word shape p h.pair (pos exit.steps) (u · exit.letters) (x · exit.rest) first) in
     let last : Carries shape p (pos (count * enough.period)) (x · exit.rest) (x · (more ++ exit.rest)) = subst (Carries shape p (pos (count * enough.period)) (x · exit.rest)) (after-append x more exit.rest) (carries_extends shape p (pos (count * enough.period)) x (x · more) exit.rest hz rounds) in
-    never_back h most u x exit.letters (more ++ exit.rest) (some exit.letters most enough.period exit.steps enough.attractor.first.positive enough.is refl) listed (attractor_stays h x listed (enough.period, enough.by, enough.attractor))
-    (carries_sum shape p h.pair (pos exit.steps) (pos (count * enough.period)) (pos most) (sum exit.steps count enough.period most enough.is) (u · exit.letters) (x · exit.rest) (x · (more ++ exit.rest)) first last)
-    (omega (arith, length-append more exit.rest, length-repeated count enough.by enough.attractor.lengthens.0)) none
+    let whole = carries_sum shape p h.pair (pos exit.steps) (pos (count * enough.period)) (pos walk.steps) (sum exit.steps count enough.period walk.steps (all ∙ enough.is)) (u · exit.letters) (x · exit.rest) (x · (more ++ exit.rest)) first last in
+    let there : c.above · walk.rest ≡ x · (more ++ exit.rest) = carries_single shape p h.pair (pos walk.steps) (u · exit.letters) (c.above · walk.rest) (x · (more ++ exit.rest)) c.carries whole in
+    let same : x ≡ c.above = basis_single shape X h.semi.basis (c.above · walk.rest) x c.above listed (listed_at X walk.to c.above c.here) (record { rest = more ++ exit.rest; is = there }) (under_after c.above walk.rest) in
+    let rest : walk.rest ≡ more ++ exit.rest = after_cancel x walk.rest (more ++ exit.rest) (ap (λ t. t · walk.rest) same ∙ there) in (
+      some exit.letters walk.steps enough.period exit.steps enough.attractor.first.positive (all ∙ enough.is) refl,
+      record {
+        above = c.above;
+        here = c.here;
+        ahead = subst (StaysAhead shape p X) same (attractor_stays h x listed (enough.period, enough.by, enough.attractor));
+        long = omega (arith, ap (λ (z : List ℕ). length z) rest, length-append more exit.rest, length-repeated count enough.by enough.attractor.lengthens.0);
+      },
+    )
   where
     sum : (steps count period most : ℕ) → most ≡ steps + period * count → pos steps +ℤ pos (count * period) ≡ pos most
     sum steps count period most e = omega (arith, ints)

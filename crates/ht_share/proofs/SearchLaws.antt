@@ -28,7 +28,7 @@ use Rattle.ht_types.proofs.StopLaws.{few_words}
 use Rattle.ht_types.proofs.OnwardLaws.{early_under}
 use Rattle.ht_types.proofs.PeriodicLaws.{cycle_under}
 use Rattle.ht_types.proofs.TurnLaws.{HasSemiNormal}
-use Rattle.ht_flow.proofs.AttractorLaws.{period_small, attractor_ahead}
+use Rattle.ht_types.proofs.AttractorLaws.{period_small, attractor_ahead}
 use Rattle.ht_flow.proofs.FlowingLaws.{typed_base}
 use Rattle.ht_quasi.proofs.StepLaws.{listed_at}
 use Rattle.ht_share.specs.InnerWords.{IsInner}

@@ -1,5 +1,5 @@
 //! Words under the infinite part that share an orbit.
-ghost use Rattle.std.specs.Prelude.{◌≡◌, ◌<◌, ◌^◌, ◌↔◌, ℤ, nat_abs, IfOk, IsTrue, MatchOption};
+ghost use Rattle.std.specs.Prelude.{◌≡◌, ◌<◌, ◌^◌, ◌↔◌, ℕ, ℤ, List, nat_abs, IfOk, IsTrue, MatchOption};
 ghost use Rattle.ht_word.specs.Words.{◌·◌, IsLetters, IsWordOf};
 ghost use Rattle.ht_pair.specs.Orbits.{ShareOrbit};
 ghost use Rattle.ht_types.specs.Flows.{IsUnderInfinite};
@@ -7,7 +7,7 @@ ghost use Rattle.ht_types.specs.Shares.{IsShare};
 ghost use Rattle.ht_flow.specs.Flowing.{FlowsUnder, IsAddressed};
 ghost use Rattle.ht_share.specs.Exits.{AreExits};
 
-use crate::follow::leads;
+use crate::follow::leads_under;
 use ht_flow::{Flowed, exit_word, flow};
 use ht_types::Typed;
 use ht_word::{Letters, NoMemory, Word};
@@ -22,7 +22,7 @@ struct Address {
 }
 
 // Reads the one number of steps that can lead from the first word to the second from their addresses,
-// and follows the whole first word by so many steps.
+// and follows the whole first word by so many steps: under the basis they lead to no other word.
 pub(crate) fn share_infinite(
     alloc: Global,
     t: &Typed,
@@ -44,27 +44,29 @@ pub(crate) fn share_infinite(
     }
 }
 
-// Whether the k-th power carries the one word to the other: steps ahead from the one, or from the
-// other where the power is below 0.
+// Whether the k-th power, which carries the one word to the other with letters behind both, carries it
+// there without them: steps ahead from the one, or from the other where the power is below 0.
 fn is_shared(alloc: Global, t: &Typed, k: i128, u: &Word, v: &Word) -> Result<bool, NoMemory>
     requires first { IsWordOf t.now.element.shape u.now × IsUnderInfinite t.now.element.shape t.now.element.rows t.now.quasi.basis.words u.now }
     requires second { IsWordOf t.now.element.shape v.now × IsUnderInfinite t.now.element.shape t.now.element.rows t.now.quasi.basis.words v.now }
     requires few { nat_abs k < 2 ^ 122 }
+    requires behind { (z : List ℕ) × ShareOrbit t.now.element.shape t.now.element.rows (u.now · z) (v.now · z) k }
     ensures { IfOk result (λ yes. IsTrue yes ↔ ShareOrbit t.now.element.shape t.now.element.rows u.now v.now k) }
 {
     t.keeps_kinds();
     if k < 0 {
-        leads(alloc, t, k.unsigned_abs(), v, u)
+        leads_under(alloc, t, k.unsigned_abs(), v)
     } else {
-        leads(alloc, t, k.unsigned_abs(), u, v)
+        leads_under(alloc, t, k.unsigned_abs(), u)
     }
 }
 
-// The power that carries the first word to the second if any does; `None` only where none does.
+// The power that carries the first word to the second if any does, and does so with some letters
+// behind both; `None` only where none does.
 fn only_power(alloc: Global, t: &Typed, u: &Word, v: &Word) -> Result<Option<i128>, NoMemory>
     requires first { IsWordOf t.now.element.shape u.now × IsUnderInfinite t.now.element.shape t.now.element.rows t.now.quasi.basis.words u.now }
     requires second { IsWordOf t.now.element.shape v.now × IsUnderInfinite t.now.element.shape t.now.element.rows t.now.quasi.basis.words v.now }
-    ensures { IfOk result (λ found. MatchOption found ((j : ℤ) → ¬ ShareOrbit t.now.element.shape t.now.element.rows u.now v.now j) (λ k. (nat_abs k < 2 ^ 122) × ((j : ℤ) → ShareOrbit t.now.element.shape t.now.element.rows u.now v.now j → j ≡ k))) }
+    ensures { IfOk result (λ found. MatchOption found ((j : ℤ) → ¬ ShareOrbit t.now.element.shape t.now.element.rows u.now v.now j) (λ k. (nat_abs k < 2 ^ 122) × ((j : ℤ) → ShareOrbit t.now.element.shape t.now.element.rows u.now v.now j → j ≡ k) × (z : List ℕ) × ShareOrbit t.now.element.shape t.now.element.rows (u.now · z) (v.now · z) k)) }
 {
     t.keeps_kinds();
     let exit = exit_of_both(alloc, t, u, v)?;

@@ -12,7 +12,6 @@
 //! - `search`: the pond of one word
 //! - `follow`: whether steps lead a word to a word, through a pond if there is one on the way
 //! - `found`: whether steps carry a word to a word, where some ponds are known
-//! - `laws`: what holds of words that share an orbit
 #![tactic(auto)]
 
 mod carried;
@@ -20,7 +19,6 @@ mod follow;
 mod found;
 mod infinite;
 mod inner;
-pub mod laws;
 mod periodic;
 mod pond;
 mod search;

@@ -43,7 +43,7 @@ pub(crate) fn pond_of(
             return settled_pond(alloc, t, word, &exit.letters, &walk, words, found);
         }
     }
-    Ok(None)
+    unreachable!()
 }
 
 // Whether the word is above one that steps carry to the repeller above it. It has no pond then.
@@ -59,7 +59,7 @@ fn is_on_repeller(t: &Typed, word: &Word, walk: &Walk) -> bool
     }
 }
 
-// So many steps that a word that isn't back by then never is.
+// So many steps that the walk has settled by then.
 fn steps_enough(t: &Typed, word: &Word, exit: &Exit) -> u128
     requires { IsExit t.now.element.shape t.now.element.rows t.now.quasi.basis.words Ahead word.now exit.now }
     ensures { IsEnough t.now.element.shape t.now.element.rows t.now.quasi.basis.words exit.now result }

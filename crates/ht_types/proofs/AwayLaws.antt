@@ -10,14 +10,13 @@ use Rattle.ht_word.specs.declared.shape.Shape.{Shape}
 use Rattle.ht_word.specs.declared.word.Word.{Word}
 use Rattle.ht_word.proofs.WordLaws.{after-append, after_cancel, letters_back, list_prefixes, word_rest}
 use Rattle.ht_pair.specs.Kinds.{IsRepeller, IsRepellerWord}
-use Rattle.ht_pair.specs.Pairs.{turned}
 use Rattle.ht_pair.specs.SemiNormal.{CarriesUnder, StaysBehind}
 use Rattle.ht_pair.specs.Steps.{Carries}
 use Rattle.ht_pair.specs.declared.row.Row.{Row}
 use Rattle.ht_pair.proofs.CarriesLaws.{carries_single, carries_word, carries_back, carries_rest}
-use Rattle.ht_pair.proofs.MovesLaws.{turned_pair}
-use Rattle.ht_types.proofs.FlowLaws.{lengthened_twice, turned_mirrors}
-use Rattle.ht_types.proofs.MirrorLaws.{behind_ahead, mirrored_semi_normal, attractor_repeller}
+use Rattle.ht_quasi.proofs.MirrorLaws.{behind_ahead}
+use Rattle.ht_types.proofs.FlowLaws.{lengthened_twice, turned_mirrors, turned_base}
+use Rattle.ht_types.proofs.MirrorLaws.{attractor_repeller}
 use Rattle.ht_types.proofs.OnwardLaws.{early_under}
 use Rattle.ht_types.proofs.PeriodicLaws.{carried_further}
 use Rattle.ht_types.proofs.TurnLaws.{HasSemiNormal, FallsBack, grows_attractor}
@@ -30,8 +29,7 @@ IsAway shape p X x y = (z : List ℕ) → FallsBack shape p X x (y ++ z) → ⊥
 falls_repeller : {shape : Shape} {p : List Row} {X : List Word} → HasSemiNormal shape p X → (x : Word) (z : List ℕ) → FallsBack shape p X x z → IsRepellerWord shape p x
 falls_repeller {shape} {p} {X} h x z b =
     let m = turned_mirrors shape p h.pair in
-    let other : HasSemiNormal shape (turned p) X = record { pair = turned_pair shape p h.pair; semi = mirrored_semi_normal m X h.semi } in
-    let a = grows_attractor other b.count x b.front b.positive (behind_ahead m X x b.stays) (b.lengthens.0, m.from (pos b.count) x (x · b.front) b.lengthens.1) in
+    let a = grows_attractor (turned_base h) b.count x b.front b.positive (behind_ahead m X x b.stays) (b.lengthens.0, m.from (pos b.count) x (x · b.front) b.lengthens.1) in
     (a.0, a.1, attractor_repeller m x a.0 a.1 a.2)
 
 -- the letters by which it falls back begin with those of the repeller

@@ -130,7 +130,7 @@ ahead_goes {shape} {p} {X} {steps} h (suc k) x u here ahead =
     by (λ y v there stays. ahead_goes h k y v there stays) at.0 at.1 (h.are.each x u at.0 here at.1)
   where
     by : ((y : ℕ) (v : Word) → slice_get X y ≡ Some v → StaysAhead shape p X v → CanGo steps k y) → (step : Step) → slice_get steps x ≡ Some step → HasStep shape p X u step → CanGo steps (suc k) x
-    by further Splits at g = absurd (g (ahead 1))
+    by further Splits at g = absurd (let c = ahead 1 in g c.to c.carries)
     by further (Leads next rest) at g =
         let c = further next g.above g.here (ahead_next shape p h.pair X h.semi u g.above rest (listed_at X x u here) (listed_at X next g.above g.here) g.carries ahead) in
         record { to = c.to; behind = c.behind ++ rest; goes = goes_next steps k x next c.to rest c.behind at c.goes }
@@ -138,7 +138,8 @@ ahead_goes {shape} {p} {X} {steps} h (suc k) x u here ahead =
 -- a word whose steps lead to one that splits doesn't stay ahead
 ends_leaves : {shape : Shape} {p : List Row} {X : List Word} {steps : List Step} → IsStepped shape p X steps → (k x last : ℕ) (z : List ℕ) (u : Word) → slice_get X x ≡ Some u → Goes steps k x last z → slice_get steps last ≡ Some Splits → StaysAhead shape p X u → ⊥
 ends_leaves {shape} {p} {X} {steps} h zero x last z u here g splits ahead =
-    h.are.each x u Splits here (subst (λ t. slice_get steps t ≡ Some Splits) (sym ((no_steps steps x last z g).0)) splits) (ahead 1)
+    let c = ahead 1 in
+    h.are.each x u Splits here (subst (λ t. slice_get steps t ≡ Some Splits) (sym ((no_steps steps x last z g).0)) splits) c.to c.carries
 ends_leaves {shape} {p} {X} {steps} h (suc k) x last z u here g splits ahead =
     let a = first_step steps k x last z g in
     let one = h.are.each x u (Leads a.next a.rest) here a.here in

@@ -19,7 +19,7 @@ use Rattle.ht_pair.specs.declared.row.Row.{Row}
 use Rattle.ht_pair.proofs.BasisLaws.{basis_single}
 use Rattle.ht_pair.proofs.CarriesLaws.{carries_none, carries_word, carries_extends}
 use Rattle.ht_quasi.proofs.StepLaws.{listed_at, same_at}
-use Rattle.ht_types.specs.Flows.{LeadsIn, IsEndKind, IsUnderInfinite, IsWalk, IsWholeWalk, IsFurther, LeadsAway, IsExit}
+use Rattle.ht_types.specs.Flows.{LeadsIn, IsEndKind, IsUnderInfinite, IsWalk, IsWholeWalk, IsContinuedWith, LeadsAway, IsExit}
 use Rattle.ht_types.specs.TypedElements.{TypedValue, IsTyped}
 use Rattle.ht_types.specs.declared.direction.Direction.{Direction}
 use Rattle.ht_types.specs.declared.direction.Direction.TheVariants.{Ahead}
@@ -149,7 +149,7 @@ exit_left {shape} {p} {X} h word x z letters walk a more infinite e on ha away =
 ]
 
 pub exit_more : (direction : Direction) (shape : Shape) (p q : List Row) (X : List Word) → IsDirected direction shape p q X → (word x : Word) (z letters longer : List ℕ) (walk next : Walk) (a : ℕ) → IsInfiniteWord shape q X x → word ≡ x · z → (on : IsOnExit shape q X word letters walk) → ¬ IsAttractorWord shape q on.above → IsLetter shape a
-    → ((m : ℕ) (by : List ℕ) → IsRepeller shape q on.above m by → slice_get by (length walk.rest) ≢ Some a) → longer ≡ letters ++ (a ∷ []) → IsFurther shape p X direction walk a next → IsOnExit shape q X word longer next
+    → ((m : ℕ) (by : List ℕ) → IsRepeller shape q on.above m by → slice_get by (length walk.rest) ≢ Some a) → longer ≡ letters ++ (a ∷ []) → IsContinuedWith shape p X direction walk a next → IsOnExit shape q X word longer next
 exit_more direction shape p q X d word x z letters longer walk next a infinite e on open_end ha other is f =
     let same : f.above ≡ on.above = same_at X X walk.to f.above on.above refl f.here on.walked.here in
     let m = walk_out direction shape p q X d (child (f.above · walk.rest) a) f.whole.above f.more f.whole.walked in
@@ -197,7 +197,7 @@ measure_falls t s zero m r l within short same = let e : r ≡ l + 1 = same refl
 measure_falls t s (suc k) m r l within short same = measure_steps t s k m r l within
 
 pub exit_smaller : (direction : Direction) (shape : Shape) (p q : List Row) (X : List Word) → IsDirected direction shape p q X → (word x : Word) (z letters longer : List ℕ) (walk next : Walk) (a : ℕ) → IsInfiniteWord shape q X x → word ≡ x · z → (on : IsOnExit shape q X word letters walk) → ¬ IsAttractorWord shape q on.above → IsLetter shape a
-    → IsFurther shape p X direction walk a next → IsOnExit shape q X word longer next
+    → IsContinuedWith shape p X direction walk a next → IsOnExit shape q X word longer next
     → left_over (length X * (length word.letters + 2)) next.steps (longest (from_words q) + longest X) (length next.rest) < left_over (length X * (length word.letters + 2)) walk.steps (longest (from_words q) + longest X) (length walk.rest)
 exit_smaller direction shape p q X d word x z letters longer walk next a infinite e on open_end ha f after =
     let same : f.above ≡ on.above = same_at X X walk.to f.above on.above refl f.here on.walked.here in
@@ -262,14 +262,14 @@ asked_open direction t b word h letters walk on kind here none a =
     open_kind direction t.element.shape t.element.rows d.there.pair t.quasi.basis.words on.above kind (h.typed.kinds_are.each walk.to on.above kind on.walked.here here) none (end_in direction t.element.shape t.element.rows b.rows t.quasi.basis.words d on.above a)
 
 pub asked_more : (direction : Direction) (t : TypedValue) (b : ElementValue) (word : Word) → IsAsked direction t b word → (letters longer : List ℕ) (walk next : Walk) → IsOnExit t.element.shape b.rows t.quasi.basis.words word letters walk → (kind : Kind) → slice_get t.kinds walk.to ≡ Some kind → ¬ IsEndKind direction kind
-    → (a : ℕ) → IsLetter t.element.shape a → LeadsAway direction kind (length walk.rest) a → longer ≡ letters ++ (a ∷ []) → IsFurther t.element.shape t.element.rows t.quasi.basis.words direction walk a next → IsOnExit t.element.shape b.rows t.quasi.basis.words word longer next
+    → (a : ℕ) → IsLetter t.element.shape a → LeadsAway direction kind (length walk.rest) a → longer ≡ letters ++ (a ∷ []) → IsContinuedWith t.element.shape t.element.rows t.quasi.basis.words direction walk a next → IsOnExit t.element.shape b.rows t.quasi.basis.words word longer next
 asked_more direction t b word h letters longer walk next on kind here none a ha away is f =
     let d = sides direction t b word h in
     exit_more direction t.element.shape t.element.rows b.rows t.quasi.basis.words d word h.under.above h.under.under.rest letters longer walk next a (seen_above direction t b word h) h.under.under.is on (asked_open direction t b word h letters walk on kind here none) ha
     (away_seen direction t.element.shape t.element.rows b.rows t.quasi.basis.words d on.above kind (length walk.rest) a (h.typed.kinds_are.each walk.to on.above kind on.walked.here here) away) is f
 
 pub asked_smaller : (direction : Direction) (t : TypedValue) (b : ElementValue) (word : Word) → IsAsked direction t b word → (letters longer : List ℕ) (walk next : Walk) → IsOnExit t.element.shape b.rows t.quasi.basis.words word letters walk → (kind : Kind) → slice_get t.kinds walk.to ≡ Some kind → ¬ IsEndKind direction kind
-    → (a : ℕ) → IsLetter t.element.shape a → IsFurther t.element.shape t.element.rows t.quasi.basis.words direction walk a next → IsOnExit t.element.shape b.rows t.quasi.basis.words word longer next
+    → (a : ℕ) → IsLetter t.element.shape a → IsContinuedWith t.element.shape t.element.rows t.quasi.basis.words direction walk a next → IsOnExit t.element.shape b.rows t.quasi.basis.words word longer next
     → left_over (length t.quasi.basis.words * (length word.letters + 2)) next.steps (longest (from_words b.rows) + longest t.quasi.basis.words) (length next.rest) < left_over (length t.quasi.basis.words * (length word.letters + 2)) walk.steps (longest (from_words b.rows) + longest t.quasi.basis.words) (length walk.rest)
 asked_smaller direction t b word h letters longer walk next on kind here none a ha f after =
     exit_smaller direction t.element.shape t.element.rows b.rows t.quasi.basis.words (sides direction t b word h) word h.under.above h.under.under.rest letters longer walk next a (seen_above direction t b word h) h.under.under.is on (asked_open direction t b word h letters walk on kind here none) ha f after
@@ -285,5 +285,6 @@ asked_exit direction t b word h exit on kind here ends =
       of_shape = on.of_shape;
       walked = walk_in direction t.element.shape t.element.rows b.rows t.quasi.basis.words (sides direction t b word h) (word · exit.letters) on.above walk on.walked;
       ends = end_kind direction t.element.shape t.element.rows t.quasi.basis.words on.above kind (h.typed.kinds_are.each exit.to on.above kind on.walked.here here) ends;
+      most = exit_bound (sides direction t b word h).base word h.under.above h.under.under.rest exit.letters walk (seen_above direction t b word h) h.under.under.is on;
       few = omega arith;
     }

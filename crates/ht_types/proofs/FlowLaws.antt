@@ -17,8 +17,9 @@ use Rattle.ht_pair.specs.declared.row.Row.{Row}
 use Rattle.ht_pair.proofs.CarriesLaws.{carries_single, carries_word, carries_extends, carries_sum}
 use Rattle.ht_pair.proofs.MovesLaws.{turned_pair}
 use Rattle.ht_pair.proofs.ProductLaws.{inverse_is}
+use Rattle.ht_quasi.proofs.MirrorLaws.{Mirrors, inverse_mirrors, mirrored_semi_normal}
 use Rattle.ht_types.specs.Flows.{FlowsAhead, FlowsBehind}
-use Rattle.ht_types.proofs.MirrorLaws.{Mirrors, inverse_mirrors, mirrored_semi_normal, such_to}
+use Rattle.ht_types.proofs.MirrorLaws.{such_to}
 use Rattle.ht_types.proofs.PeriodicLaws.{periodic_word_either}
 use Rattle.ht_types.proofs.TurnLaws.{HasSemiNormal, FallsBack, turns, stays_far, falls_to, falls_shorter}
 
@@ -146,9 +147,12 @@ mirrored_infinite {shape} {p} {q} {X} h mirrors x infinite =
 pub turned_mirrors : (shape : Shape) (p : List Row) → IsPair shape p → Mirrors shape p (turned p)
 turned_mirrors shape p pair = inverse_mirrors shape p (turned p) pair (inverse_is shape p pair)
 
+-- and have the same semi-normal bases
+pub turned_base : {shape : Shape} {p : List Row} {X : List Word} → HasSemiNormal shape p X → HasSemiNormal shape (turned p) X
+turned_base {shape} {p} {X} h = record { pair = turned_pair shape p h.pair; semi = mirrored_semi_normal (turned_mirrors shape p h.pair) X h.semi }
+
 pub flows_behind : {shape : Shape} {p : List Row} {X : List Word} → HasSemiNormal shape p X → (u x : Word) → IsWordOf shape u → Contains X x → ¬ IsCycleWord shape p x → IsUnder u x → FlowsBehind shape p X u
 flows_behind {shape} {p} {X} h u x hu c none under =
     let m = turned_mirrors shape p h.pair in
-    let other : HasSemiNormal shape (turned p) X = record { pair = turned_pair shape p h.pair; semi = mirrored_semi_normal m X h.semi } in
-    let f = flows_ahead other u x hu c (mirrored_infinite h m x (c, none)).1 under in
+    let f = flows_ahead (turned_base h) u x hu c (mirrored_infinite h m x (c, none)).1 under in
     record { letters = f.letters; of_shape = f.of_shape; steps = f.steps; to = f.to; reached = such_to m X f.steps (u · f.letters) f.to f.reached }

@@ -9,6 +9,7 @@ use Rattle.ht_pair.specs.declared.row.Row.{Row}
 use Rattle.ht_pair.specs.Pairs.{IsPair}
 use Rattle.ht_pair.specs.Products.{IsPower}
 use Rattle.ht_pair.specs.SemiNormal.{IsSemiNormal}
+use Rattle.ht_quasi.proofs.MirrorLaws.{inverse_mirrors}
 use Rattle.ht_types.specs.declared.course.Course.{Course}
 use Rattle.ht_types.specs.declared.course.Course.TheVariants.{Ends, Returns, Joins}
 use Rattle.ht_types.specs.declared.kind.Kind.{Kind}
@@ -17,10 +18,9 @@ use Rattle.ht_types.specs.declared.step.Step.TheVariants.{Leads}
 use Rattle.ht_types.specs.Courses.{AreInside, HasCourse, AreCourses}
 use Rattle.ht_types.specs.TypedElements.{HasShortReach, HasShortReaches}
 use Rattle.ht_types.specs.WordKinds.{HasKind, AreKinds}
-use Rattle.ht_types.specs.WordSteps.{AreSteps, reach_of, turned_kind, told_kind}
+use Rattle.ht_types.specs.WordSteps.{AreSteps, ReturnsToo, reach_of, turned_kind, told_kind}
 use Rattle.ht_types.proofs.CourseSizes.{joins_short}
-use Rattle.ht_types.proofs.MirrorLaws.{inverse_mirrors}
-use Rattle.ht_types.proofs.ToldLaws.{told_right}
+use Rattle.ht_types.proofs.ToldLaws.{told_right, returns_right}
 
 -- what stands at a place of a list, if the place is one
 pub some_at : {T : Type 0} (xs : List T) (place : ℕ) → place < length xs → (x : T) × (slice_get xs place ≡ Some x)
@@ -45,6 +45,22 @@ pub record AreCoursesOf (shape : Shape) (p : List Row) (X : List Word) (courses 
 -- told for the element's shape
 pub courses_of_shape : (of shape : Shape) (p : List Row) (X : List Word) (courses : List Course) → of ≡ shape → (steps : List Step) × AreSteps of p X steps × AreCourses steps courses → AreCoursesOf shape p X courses
 courses_of_shape of shape p X courses same h = record { steps = h.0; are = subst (λ (s : Shape). AreSteps s p X h.0) same h.1; told = h.2 }
+
+-- two courses that stand side by side stand in their lists
+zip_at : (ahead behind : List Course) (place : ℕ) (both : Course × Course) → slice_get (zip ahead behind) place ≡ Some both → (slice_get ahead place ≡ Some both.0) × (slice_get behind place ≡ Some both.1)
+zip_at [] behind place both e = absurd cc
+zip_at (a ∷ ahead) [] place both e = absurd cc
+zip_at (a ∷ ahead) (b ∷ behind) zero both e = let same : (a, b) ≡ both = cc in (ap (λ (t : Course × Course). Some t.0) same, ap (λ (t : Course × Course). Some t.1) same)
+zip_at (a ∷ ahead) (b ∷ behind) (suc place) both e = zip_at ahead behind place both e
+
+-- where steps back lead to a word itself, steps ahead come back to it
+pub courses_return : (shape : Shape) (p q : List Row) (X : List Word) (ahead behind : List Course) → IsPair shape p → IsPair shape q → IsPower shape p (neg_ℤ (pos 1)) q → IsSemiNormal shape p X → AreCoursesOf shape p X ahead → AreCoursesOf shape q X behind
+    → All (λ (both : Course × Course). ReturnsToo both.0 both.1) (zip ahead behind)
+courses_return shape p q X ahead behind pair_p pair_q inverse semi there back = All-from_contains (λ (both : Course × Course). ReturnsToo both.0 both.1) (zip ahead behind) (λ both c.
+    let at = zip_at ahead behind c.0 both (slice_get-get_or (zip ahead behind) c.0 both c.1 ∙ ap (λ (t : Course × Course). Some t) c.2) in
+    let inside = slice_get_within ahead c.0 both.0 at.0 in
+    let x = some_at X c.0 (omega (arith, inside, there.told.as_many, there.are.as_many)) in
+    returns_right shape p q pair_p pair_q (inverse_mirrors shape p q pair_p inverse) X semi there.steps back.steps there.are back.are c.0 x.0 both.0 both.1 x.1 (there.told.each c.0 both.0 at.0) (back.told.each c.0 both.1 at.1))
 
 pair_at : (ahead behind : List Course) (place : ℕ) (kind : Kind) → slice_get (map (λ p. told_kind p.0 p.1) (zip ahead behind)) place ≡ Some kind → (a : Course) × (b : Course) × (slice_get ahead place ≡ Some a) × (slice_get behind place ≡ Some b) × (told_kind a b ≡ kind)
 pair_at [] behind place kind e = absurd cc

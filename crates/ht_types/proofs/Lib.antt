@@ -21,3 +21,7 @@ pub mod StopLaws
 pub mod AwayLaws
 pub mod ExitLaws
 pub mod CycleKindLaws
+pub mod KnownParts
+pub mod AttractorLaws
+pub mod RepellerLaws
+pub mod ShareLaws

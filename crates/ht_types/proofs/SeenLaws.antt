@@ -9,10 +9,11 @@ use Rattle.ht_pair.specs.Elements.{ElementValue}
 use Rattle.ht_pair.specs.Kinds.{IsAttractorWord, IsAttractor, IsRepeller}
 use Rattle.ht_pair.specs.Pairs.{IsPair}
 use Rattle.ht_pair.specs.Reaches.{CarriesUnderSuch}
-use Rattle.ht_pair.specs.SemiNormal.{CarriesUnder}
+use Rattle.ht_pair.specs.SemiNormal.{CarriesUnder, IsQuasinormal}
 use Rattle.ht_pair.specs.Steps.{Carries}
 use Rattle.ht_pair.specs.declared.row.Row.{Row}
 use Rattle.ht_pair.proofs.KindLaws.{cycle_no_attractor, cycle_no_repeller, attractor_no_repeller, attractor_once, repeller_once}
+use Rattle.ht_quasi.proofs.MirrorLaws.{Mirrors, inverse_mirrors, mirrored_semi_normal, quasinormal_inverse, under_to, under_from}
 use Rattle.ht_types.specs.Flows.{power_in, IsEndIn, IsEndKind, LeadsIn, LeadsAway, IsWalk}
 use Rattle.ht_types.specs.TypedElements.{TypedValue, IsTyped}
 use Rattle.ht_types.specs.WordKinds.{HasKind}
@@ -22,7 +23,7 @@ use Rattle.ht_types.specs.declared.kind.Kind.{Kind}
 use Rattle.ht_types.specs.declared.kind.Kind.TheVariants.{Cycle, Attractor, Repeller, Passing}
 use Rattle.ht_types.specs.declared.walk.Walk.{Walk}
 use Rattle.ht_types.proofs.FlowLaws.{mirrored_infinite}
-use Rattle.ht_types.proofs.MirrorLaws.{Mirrors, inverse_mirrors, mirrored_semi_normal, under_to, under_from, such_to, such_from, attractor_repeller, repeller_attractor}
+use Rattle.ht_types.proofs.MirrorLaws.{such_to, such_from, attractor_repeller, repeller_attractor}
 use Rattle.ht_types.proofs.TurnLaws.{HasSemiNormal}
 
 abbrev pub Follows : Direction → Shape → List Row → List Row → Type 0
@@ -49,6 +50,12 @@ directed Behind t b typed l =
     let there : HasSemiNormal t.element.shape t.element.rows t.quasi.basis.words = record { pair = typed.canonical.pair; semi = typed.quasinormal.least.semi_normal } in
     let m = inverse_mirrors t.element.shape t.element.rows b.rows typed.canonical.pair l.1 in
     record { there = there; base = record { pair = (l.1).pair; semi = mirrored_semi_normal m t.quasi.basis.words there.semi }; follows = m }
+
+-- the quasinormal basis of the element is that of what makes the steps
+pub least_for : (direction : Direction) (t : TypedValue) (b : ElementValue) → IsTyped t.element t.quasi t.kinds → LeadsIn direction t.element b → IsQuasinormal b.shape b.rows t.quasi.basis.words
+least_for Ahead t b typed e = subst (λ (v : ElementValue). IsQuasinormal v.shape v.rows t.quasi.basis.words) (sym e) typed.quasinormal.least
+least_for Behind t b typed l =
+    subst (λ (s : Shape). IsQuasinormal s b.rows t.quasi.basis.words) (sym l.0) ((quasinormal_inverse t.element.shape t.element.rows b.rows t.quasi.basis.words typed.canonical.pair l.1).0 typed.quasinormal.least)
 
 -- ---- words
 

@@ -6,7 +6,7 @@ use Rattle.ht_word.specs.declared.shape.Shape.{Shape}
 use Rattle.ht_word.specs.declared.word.Word.{Word}
 use Rattle.ht_pair.specs.Bases.{TakesAtMost}
 use Rattle.ht_pair.specs.Elements.{ElementValue}
-use Rattle.ht_pair.specs.SemiNormal.{CarriesUnder}
+use Rattle.ht_pair.specs.Steps.{Carries}
 use Rattle.ht_pair.specs.declared.row.Row.{Row}
 use Rattle.ht_pair.proofs.CarriesLaws.{carries_word}
 use Rattle.ht_quasi.proofs.StepLaws.{same_at}
@@ -62,12 +62,14 @@ way_bound direction shape p q X d u walk under w =
 -- ---- the end
 
 -- under the word of an end
-pub stops_ended : (direction : Direction) (shape : Shape) (p q : List Row) (X : List Word) → IsDirected direction shape p q X → (u : Word) (walk : Walk) (w : IsOnWay shape q X u walk) (kind : Kind) → HasKind shape p X w.above kind → IsEndKind direction kind → walk.steps < 2 ^ 121 → IsWholeWalk shape p X direction u walk
-stops_ended direction shape p q X d u walk w kind h e few = record { above = w.above; walked = walk_in direction shape p q X d u w.above walk w.walked; stops = inl (end_kind direction shape p X w.above kind h e); few = few }
+pub stops_ended : (direction : Direction) (shape : Shape) (p q : List Row) (X : List Word) → IsDirected direction shape p q X → (u : Word) (walk : Walk) (w : IsOnWay shape q X u walk) (kind : Kind) → HasKind shape p X w.above kind → IsEndKind direction kind → IsUnderInfinite shape p X u → walk.steps < 2 ^ 121 → IsWholeWalk shape p X direction u walk
+stops_ended direction shape p q X d u walk w kind h e under few =
+    record { above = w.above; walked = walk_in direction shape p q X d u w.above walk w.walked; stops = inl (end_kind direction shape p X w.above kind h e); most = way_bound direction shape p q X d u walk under w; few = few }
 
--- or where a step leads to no word under X
-pub stops_stuck : (direction : Direction) (shape : Shape) (p q : List Row) (X : List Word) → IsDirected direction shape p q X → (u : Word) (walk : Walk) (w : IsOnWay shape q X u walk) → ¬ CarriesUnder shape q (pos 1) (w.above · walk.rest) X → walk.steps < 2 ^ 121 → IsWholeWalk shape p X direction u walk
-stops_stuck direction shape p q X d u walk w stuck few = record { above = w.above; walked = walk_in direction shape p q X d u w.above walk w.walked; stops = inr (λ h. stuck (under_out direction shape p q X d 1 (w.above · walk.rest) h)); few = few }
+-- or where a step leads to no word
+pub stops_stuck : (direction : Direction) (shape : Shape) (p q : List Row) (X : List Word) → IsDirected direction shape p q X → (u : Word) (walk : Walk) (w : IsOnWay shape q X u walk) → ((v : Word) → ¬ Carries shape q (pos 1) (w.above · walk.rest) v) → IsUnderInfinite shape p X u → walk.steps < 2 ^ 121 → IsWholeWalk shape p X direction u walk
+stops_stuck direction shape p q X d u walk w stuck under few =
+    record { above = w.above; walked = walk_in direction shape p q X d u w.above walk w.walked; stops = inr (λ h. let c = under_out direction shape p q X d 1 (w.above · walk.rest) h in stuck c.to c.carries); most = way_bound direction shape p q X d u walk under w; few = few }
 
 -- ---- what the code knows
 

@@ -10,15 +10,16 @@ use Rattle.ht_pair.specs.SemiNormal.{IsSemiNormal}
 use Rattle.ht_pair.specs.Steps.{Carries}
 use Rattle.ht_pair.specs.declared.row.Row.{Row}
 use Rattle.ht_pair.proofs.CarriesLaws.{carries_back}
+use Rattle.ht_quasi.proofs.MirrorLaws.{Mirrors, behind_ahead, mirrored_semi_normal}
 use Rattle.ht_types.specs.Courses.{Goes, IsRound, Turns, HasCourse}
 use Rattle.ht_types.specs.WordKinds.{IsAhead, HasKind}
-use Rattle.ht_types.specs.WordSteps.{AreSteps, reach_of, turned_kind, told_kind}
+use Rattle.ht_types.specs.WordSteps.{AreSteps, ReturnsToo, reach_of, turned_kind, told_kind}
 use Rattle.ht_types.specs.declared.course.Course.{Course}
 use Rattle.ht_types.specs.declared.course.Course.TheVariants.{Ends, Returns, Joins}
 use Rattle.ht_types.specs.declared.step.Step.{Step}
 use Rattle.ht_types.proofs.CourseLaws.{IsStepped, cycle_turns, no_cycle, no_attractor, returns_cycle, returns_attractor, joins_leads, joins_no_turn, ends_not_ahead}
 use Rattle.ht_types.proofs.PathLaws.{ends_turns}
-use Rattle.ht_types.proofs.MirrorLaws.{Mirrors, behind_ahead, mirrored_semi_normal, attractor_repeller, no_repeller, leads_behind}
+use Rattle.ht_types.proofs.MirrorLaws.{attractor_repeller, no_repeller, leads_behind}
 
 -- a semi-normal basis with the steps of its words by an element and by one that mirrors it
 record AreBoth (shape : Shape) (p q : List Row) (X : List Word) (ahead behind : List Step) : Type 0 where
@@ -58,10 +59,26 @@ told {shape} {p} {q} {X} {ahead} {behind} h place x (Joins reach) b here c d =
     let none = joins_no_turn ahead place reach c.0 c.1 in
     turned_right h place x (Joins reach) b here none (joins_leads h.there place x reach here c.0 c.1 none) d
 
+-- if the steps back lead to the word itself, those ahead come back to it
+returns_too : {shape : Shape} {p q : List Row} {X : List Word} {ahead behind : List Step} → AreBoth shape p q X ahead behind → (place : ℕ) (x : Word) (a b : Course) → slice_get X place ≡ Some x → HasCourse ahead place a → HasCourse behind place b → ReturnsToo a b
+returns_too {shape} {p} {q} {X} {ahead} {behind} h place x Ends b here c d = λ m e.
+    let back = subst (HasCourse behind place) e d in
+    absurd (grows_back h place m [] x here (ends_turns ahead place c) back.0 back.1 refl)
+returns_too h place x (Returns k by) b here c d = λ m e. (k, by, refl)
+returns_too {shape} {p} {q} {X} {ahead} {behind} h place x (Joins reach) b here c d = λ m e.
+    let back = subst (HasCourse behind place) e d in
+    absurd (grows_back h place m [] x here (joins_no_turn ahead place reach c.0 c.1) back.0 back.1 refl)
+
+-- the steps of the words by an element and by one that mirrors it
+both_of : (shape : Shape) (p q : List Row) → IsPair shape p → IsPair shape q → Mirrors shape p q → (X : List Word) → IsSemiNormal shape p X → (ahead behind : List Step) → AreSteps shape p X ahead → AreSteps shape q X behind → AreBoth shape p q X ahead behind
+both_of shape p q pair_p pair_q mirrors X semi ahead behind steps back =
+    record { mirrors = mirrors; there = record { pair = pair_p; semi = semi; are = steps }; back = record { pair = pair_q; semi = mirrored_semi_normal mirrors X semi; are = back } }
+
+pub returns_right : (shape : Shape) (p q : List Row) → IsPair shape p → IsPair shape q → Mirrors shape p q → (X : List Word) → IsSemiNormal shape p X → (ahead behind : List Step) → AreSteps shape p X ahead → AreSteps shape q X behind
+    → (place : ℕ) (x : Word) (a b : Course) → slice_get X place ≡ Some x → HasCourse ahead place a → HasCourse behind place b → ReturnsToo a b
+returns_right shape p q pair_p pair_q mirrors X semi ahead behind steps back place x a b here c d = returns_too (both_of shape p q pair_p pair_q mirrors X semi ahead behind steps back) place x a b here c d
+
 -- the kind of a word is told by its courses by an element and by one that mirrors it
 pub told_right : (shape : Shape) (p q : List Row) → IsPair shape p → IsPair shape q → Mirrors shape p q → (X : List Word) → IsSemiNormal shape p X → (ahead behind : List Step) → AreSteps shape p X ahead → AreSteps shape q X behind
     → (place : ℕ) (x : Word) (a b : Course) → slice_get X place ≡ Some x → HasCourse ahead place a → HasCourse behind place b → HasKind shape p X x (told_kind a b)
-told_right shape p q pair_p pair_q mirrors X semi ahead behind steps back place x a b here c d =
-    let both : AreBoth shape p q X ahead behind =
-    record { mirrors = mirrors; there = record { pair = pair_p; semi = semi; are = steps }; back = record { pair = pair_q; semi = mirrored_semi_normal mirrors X semi; are = back } } in
-    told both place x a b here c d
+told_right shape p q pair_p pair_q mirrors X semi ahead behind steps back place x a b here c d = told (both_of shape p q pair_p pair_q mirrors X semi ahead behind steps back) place x a b here c d

@@ -11,11 +11,13 @@
 --     IsPlaced X u walk                    no steps, from u to the word of X above it
 --     IsWalk shape p X direction u x walk  the walk's steps lead from u to x, at the walk's place, and the walk's letters, under words of X all the
 --                                          way, and the walk hasn't ended before
---     IsWholeWalk shape p X direction u walk  such a walk that ends here, or that no further step continues
---     IsFurther shape p X direction way a walk  the walk is that way and then the whole walk of the word where it has come with the letter a
+--     IsWholeWalk shape p X direction u walk  such a walk that ends here, or that no further step continues, of at most N(l + 1) steps for N words of X
+--                                          and l letters of u
+--     IsContinuedWith shape p X direction way a walk  the walk is that way and then the whole walk of the word where it has come with the letter a
 --     LeadsAway direction kind k a         if walks in the direction lead away from words of the kind, a doesn't stand at the place k of its letters
---     IsExit shape p X direction u exit    letters behind u, and the walk of u with them, which ends; it takes fewer than 2^121 steps
-use Rattle.std.specs.Prelude.{ℕ, ◌≡◌, ◌≢◌, ◌≤◌, ◌<◌, ◌+◌, ◌^◌, ◌⊎◌, ℤ, pos, neg_ℤ, List, Some, slice_get, ⊤}
+--     IsExit shape p X direction u exit    letters behind u, and the walk of u with them, which ends, by at most N(l + 2) steps for N words of X and l
+--                                          letters of u
+use Rattle.std.specs.Prelude.{ℕ, ◌≡◌, ◌≢◌, ◌≤◌, ◌<◌, ◌+◌, ◌*◌, ◌^◌, ◌⊎◌, ℤ, pos, neg_ℤ, List, Some, length, slice_get, ⊤}
 use Rattle.ht_word.specs.declared.word.Word.{Word}
 use Rattle.ht_word.specs.declared.shape.Shape.{Shape}
 use Rattle.ht_word.specs.Words.{◌·◌, child, IsLetters, IsUnder}
@@ -91,6 +93,7 @@ pub record IsWholeWalk (shape : Shape) (p : List Row) (X : List Word) (direction
   pub above : Word
   pub walked : IsWalk shape p X direction u above walk
   pub stops : IsEndIn direction shape p above ⊎ ¬ CarriesUnder shape p (power_in direction 1) (above · walk.rest) X
+  pub most : walk.steps ≤ length X * (length u.letters + 1)
   pub few : walk.steps < 2 ^ 121
 
 abbrev pub LeadsAway : Direction → Kind → ℕ → ℕ → Type 0
@@ -103,7 +106,7 @@ LeadsAway Behind (Attractor m by) k a = slice_get by k ≢ Some a
 LeadsAway Behind (Repeller m by) k a = ⊤
 LeadsAway Behind (Passing ahead behind) k a = ⊤
 
-pub record IsFurther (shape : Shape) (p : List Row) (X : List Word) (direction : Direction) (way : Walk) (a : ℕ) (walk : Walk) : Type 0 where
+pub record IsContinuedWith (shape : Shape) (p : List Row) (X : List Word) (direction : Direction) (way : Walk) (a : ℕ) (walk : Walk) : Type 0 where
   pub above : Word
   pub here : slice_get X way.to ≡ Some above
   pub more : Walk
@@ -117,4 +120,5 @@ pub record IsExit (shape : Shape) (p : List Row) (X : List Word) (direction : Di
   pub of_shape : IsLetters shape exit.letters
   pub walked : IsWalk shape p X direction (u · exit.letters) above (record { steps = exit.steps; to = exit.to; rest = exit.rest })
   pub ends : IsEndIn direction shape p above
+  pub most : exit.steps ≤ length X * (length u.letters + 2)
   pub few : exit.steps < 2 ^ 121

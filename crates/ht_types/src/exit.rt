@@ -1,7 +1,7 @@
 //! Exits: letters behind a word under the infinite part with which its walk ends.
 ghost use Rattle.std.specs.Prelude.{◌≡◌, ◌≤◌, ◌<◌, ◌≢◌, length, ◌^◌, Some, slice_get, IfOk};
 ghost use Rattle.ht_word.specs.Words.{◌·◌, child, IsWordOf};
-ghost use Rattle.ht_types.specs.Flows.{LeadsIn, IsUnderInfinite, LeadsAway, IsExit, IsFurther};
+ghost use Rattle.ht_types.specs.Flows.{LeadsIn, IsUnderInfinite, LeadsAway, IsExit, IsContinuedWith};
 
 use crate::direction::Direction;
 use crate::kind::Kind;
@@ -24,7 +24,7 @@ pub struct Exit {
 /// Letters behind a word under the infinite part such that the word with them is carried, step by
 /// step under words of the basis, under an attractor (ahead) or a repeller (behind), and this walk.
 /// Puts a letter behind the word where a step carries it to no word under the basis: at most
-/// N(l + 2) steps for N words of the basis and l letters.
+/// N(l + 2) steps for N words of the basis and l letters of the word, without those put behind it.
 pub fn exit_of(
     alloc: Global,
     t: &Typed,
@@ -68,7 +68,7 @@ fn further(
     requires place { way.to < length t.now.quasi.basis.words }
     requires further { (x : Word) → slice_get t.now.quasi.basis.words way.to ≡ Some x → IsWordOf t.now.element.shape (child (x · way.rest) letter) × IsUnderInfinite t.now.element.shape t.now.element.rows t.now.quasi.basis.words (child (x · way.rest) letter) }
     requires few { way.steps < 2 ^ 121 }
-    ensures { IfOk result (IsFurther t.now.element.shape t.now.element.rows t.now.quasi.basis.words direction way letter) }
+    ensures { IfOk result (IsContinuedWith t.now.element.shape t.now.element.rows t.now.quasi.basis.words direction way letter) }
 {
     let mut word = t
         .quasi()

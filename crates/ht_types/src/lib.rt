@@ -8,7 +8,7 @@
 //! - `direction`: the two directions of walks
 //! - `walk`: walks of words, step by step under words of the basis
 //! - `exit`: letters behind a word with which its walk ends
-//! - `laws`: what holds of every such element
+//! - `laws`: what holds of every such element, and of words that share an orbit
 //! - `sharing`: what tells whether words share an orbit; ponds
 //! - `step`: where one step of an element leads from a word of a basis
 //! - `course`: where the steps lead, one after another

@@ -1,6 +1,7 @@
 //! Where one step of an element leads from a word of a basis.
 ghost use Rattle.std.specs.Prelude.{◌≡◌, IfOk};
-ghost use Rattle.ht_word.specs.Words.{IsWordOf};
+ghost use Rattle.ht_word.specs.Words.{IsWordOf, IsUnderSome};
+ghost use Rattle.ht_pair.specs.SemiNormal.{IsQuasinormal};
 ghost use Rattle.ht_types.specs.WordSteps.{HasStep, AreSteps};
 
 use ht_pair::{Basis, Element};
@@ -10,7 +11,7 @@ use std::alloc::Global;
 /// Where one step leads from a word of a basis, or under one.
 #[derive(Debug, Drop)]
 pub enum Step {
-    /// To no word under the basis.
+    /// To no word.
     Splits,
     /// To the word of the basis at this place, from 0, with these letters behind it.
     Leads { to: usize, rest: Letters },
@@ -19,14 +20,17 @@ pub enum Step {
 // The steps of the words of a basis, in their order.
 pub(crate) type Steps = List<Step>;
 
-// Where one step leads from the word: two binary searches.
+// Where one step leads from the word, which is under the basis, the quasinormal one of the element: to
+// a word under it, if to any. Two binary searches.
 pub(crate) fn step_of(
     alloc: Global,
     a: &Element,
     basis: &Basis,
     word: &Word,
 ) -> Result<Step, NoMemory>
-    requires { IsWordOf a.now.shape word.now }
+    requires basis { IsQuasinormal a.now.shape a.now.rows basis.now.words }
+    requires word { IsWordOf a.now.shape word.now }
+    requires under { IsUnderSome word.now basis.now.words }
     ensures { IfOk result (HasStep a.now.shape a.now.rows basis.now.words word.now) }
 {
     a.keeps_limits();
@@ -34,7 +38,7 @@ pub(crate) fn step_of(
         return Ok(Step::Splits);
     };
     let Some(to) = basis.find(&moved) else {
-        return Ok(Step::Splits);
+        unreachable!()
     };
     let Some(letters) = moved.rest_after(basis.words().at(to)) else {
         unreachable!()
@@ -43,9 +47,10 @@ pub(crate) fn step_of(
     Ok(Step::Leads { to, rest })
 }
 
-// The steps of all words of the basis. O(N log N) comparisons of words for N words and rows.
+// The steps of all words of the quasinormal basis. O(N log N) comparisons of words for N words and rows.
 pub(crate) fn steps(alloc: Global, a: &Element, basis: &Basis) -> Result<Steps, NoMemory>
-    requires { basis.now.shape ≡ a.now.shape }
+    requires shape { basis.now.shape ≡ a.now.shape }
+    requires basis { IsQuasinormal a.now.shape a.now.rows basis.now.words }
     ensures { IfOk result (AreSteps a.now.shape a.now.rows basis.now.words) }
 {
     let mut steps = Steps::new(alloc);

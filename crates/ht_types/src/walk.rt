@@ -35,7 +35,7 @@ pub fn mover(alloc: Global, t: &Typed, direction: Direction) -> Result<Element, 
 
 /// The walk from a word under the infinite part, until it is under an attractor (ahead) or a
 /// repeller (behind), or the next step carries it to no word under the basis. At most
-/// N(l + 1) steps (`next_of`) for N words of the basis and l letters.
+/// N(l + 1) steps (`next_of`) for N words of the basis and l letters of the word.
 pub fn walk_of(
     alloc: Global,
     t: &Typed,
@@ -85,6 +85,7 @@ pub fn next_of(
     requires word { (x : Word) → slice_get t.now.quasi.basis.words walk.now.to ≡ Some x → IsWordOf mover.now.shape (x · walk.now.rest) }
     ensures { IfOk result (λ step. (x : Word) → slice_get t.now.quasi.basis.words walk.now.to ≡ Some x → HasStep mover.now.shape mover.now.rows t.now.quasi.basis.words (x · walk.now.rest) step) }
 {
+    t.keeps_kinds();
     if let Direction::Ahead = direction {
         if let Step::Leads { to, rest } = t.step(walk.to) {
             let mut letters = Letters::from_slice(alloc, rest.as_slice())?;

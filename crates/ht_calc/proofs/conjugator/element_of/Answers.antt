@@ -15,4 +15,4 @@ op_fault-requires c = pair_fault c.args.shape c.in_ok-copy.copy c.in-Err.fault (
 pub returns-in-Err-clause-large : goal.returns-in-Err-clause-large
 returns-in-Err-clause-large c = λ count letters is.
     let same : c.op_fault.result ≡ op_fault.Large count letters = cc in
-    kept_large c.args.shape c.args.rows.now c.in_ok-copy.copy c.in-Err.fault c.op_fault.result count letters c.requires (c.in_ok-copy.ensures ∙ c.as_slice.ensures) c.in-Err.ensures.fault c.op_fault.ensures same
+    kept_large c.args.shape c.args.rows.now c.in_ok-copy.copy c.in-Err.fault c.op_fault.result count letters c.requires (c.in_ok-copy.ensures ∙ c.as_slice.ensures) c.in-Err.ensures.fault (λ k l. (c.op_fault.ensures k l).0) same

@@ -9,7 +9,7 @@ use Rattle.ht_types.proofs.SeenLaws.{open_kind}
 use Rattle.ht_types.proofs.StopLaws.{few_words}
 use Rattle.ht_flow.specs.Flowing.{IsAddressed}
 use Rattle.ht_flow.specs.Rounds.{BeginsTimes}
-use Rattle.ht_flow.proofs.AttractorLaws.{IsAttractorOf, attractor_moved, period_small}
+use Rattle.ht_types.proofs.AttractorLaws.{IsAttractorOf, attractor_moved, period_small}
 use Rattle.ht_flow.proofs.AddressMade.{no_end, head_listed, head_short, address_made}
 use Rattle.ht_flow.proofs.FlowingLaws.{typed_base}
 use Rattle.ht_flow.proofs.HeadLaws.{attractor_of}

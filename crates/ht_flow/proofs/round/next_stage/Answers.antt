@@ -18,7 +18,8 @@ unreachable-requires c =
     let X = t.quasi.basis.words in
     let here = slice_get-get_or X c.args.stage.at (record { root = 1; letters = [] }) c.requires.place in
     let step = rw c.in_default.is at (c.in_ok-to.ensures _ here) in
-    step_top t.element c.element.result.now c.element.ensures X _ c.new.result c.new.ensures Splits step (c.requires.ahead _ here)
+    let ahead = c.requires.ahead _ here in
+    step_top t.element c.element.result.now c.element.ensures X _ c.new.result c.new.ensures Splits step ahead.to ahead.carries
 
 pub overflow_add-result-2 : goal.overflow_add-result-2
 overflow_add-result-2 c =

@@ -24,7 +24,7 @@ inner_here c =
     subst (IsInner t.element.shape t.element.rows X) is (record {
       word = carries_word t.element.shape t.element.rows (typed_base t c.keeps_kinds.ensures).pair (pos c.args.walk.now.steps) c.args.u.now (there.above · c.args.walk.now.rest) there.carries;
       under = some_at X there.above (there.above · c.args.walk.now.rest) (listed_at X c.args.walk.now.to there.above there.here) (record { rest = c.args.walk.now.rest; is = refl });
-      leaves = subst (λ (e : ElementValue). HasStep e.shape e.rows X (there.above · c.args.walk.now.rest) Splits) c.element.ensures (rw c.in_default.is at (c.in_ok-to.ensures there.above there.here));
+      leaves = λ s. subst (λ (e : ElementValue). HasStep e.shape e.rows X (there.above · c.args.walk.now.rest) Splits) c.element.ensures (rw c.in_default.is at (c.in_ok-to.ensures there.above there.here)) s.to s.carries;
     })
 
 -- the steps so far carry the word there

@@ -1,9 +1,10 @@
 use Rattle.std.proofs.Common.{◌≡◌, ◌<◌, ◌^◌, ◌∙◌, ℕ, ℤ, List, nat_abs, sym, subst, not, arith, true, false}
 use Rattle.std.specs.Str.{bytes_eq}
 use Rattle.std.proofs.lemmas.Slice.Eq.{bytes_eq-Decides}
+use Rattle.ht_word.specs.Words.{◌·◌}
 use Rattle.ht_pair.specs.Orbits.{ShareOrbit}
 use Rattle.ht_flow.proofs.FlowingLaws.{typed_base}
-use Rattle.ht_share.proofs.InfiniteShares.{addresses_along, few_between}
+use Rattle.ht_share.proofs.InfiniteShares.{addresses_along, addresses_behind, few_between}
 use Rattle.ht_share.proofs.infinite.only_power.Goals.{then-first-second-via-then-first-second, then-first-second-via-else-first-second+then-ne}
 use Rattle.ht_share.proofs.infinite.only_power.Goals as goal
 
@@ -23,8 +24,20 @@ returns-then-first-second c = λ j carries.
 pub returns : goal.returns
 returns c =
     let t = c.args.t.now in
+    let base = typed_base t c.keeps_kinds.ensures in
+    let u = c.args.u.now in
+    let v = c.args.v.now in
+    let z = c.in_ok-exit.exit in
     let first = c.in_ok-first.first in
     let second = c.in_ok-second.second in
     let few = few_between first.steps second.steps c.in_ok-first.ensures.few c.in_ok-second.ensures.few in
-    subst (λ (k : ℤ). (nat_abs k < 2 ^ 122) × ((j : ℤ) → ShareOrbit t.element.shape t.element.rows c.args.u.now c.args.v.now j → j ≡ k)) (sym few.0)
-    (few.1, (λ j carries. (addresses_along (typed_base t c.keeps_kinds.ensures) c.args.u.now c.args.v.now c.in_ok-exit.exit first.at second.at first.rest second.rest first.steps second.steps j c.in_ok-exit.ensures.of_shape c.in_ok-first.ensures c.in_ok-second.ensures carries).2))
+    subst (λ (k : ℤ). (nat_abs k < 2 ^ 122) × ((j : ℤ) → ShareOrbit t.element.shape t.element.rows u v j → j ≡ k) × (z : List ℕ) × ShareOrbit t.element.shape t.element.rows (u · z) (v · z) k) (sym few.0) (
+      few.1,
+      (λ j carries. (addresses_along base u v z first.at second.at first.rest second.rest first.steps second.steps j c.in_ok-exit.ensures.of_shape c.in_ok-first.ensures c.in_ok-second.ensures carries).2),
+      z,
+      addresses_behind base (u · z) (v · z) first.at second.at first.rest second.rest first.steps second.steps (omega arith)
+          (sym c.as_slice.ensures ∙ same (sym c.ne.ensures ∙ c.if-ne.false) ∙ c.as_slice-else-first-second.ensures) c.in_ok-first.ensures c.in_ok-second.ensures,
+    )
+  where
+    same : {xs ys : List ℕ} → not (bytes_eq xs ys) ≡ false → xs ≡ ys
+    same {xs} {ys} e = grind (arith, bytes_eq-Decides)

@@ -2,8 +2,8 @@ use Rattle.std.proofs.Common.{◌≡◌, ◌+◌, ◌++◌, ℕ, length, ap, ◌
 use Rattle.std.proofs.lemmas.Option.{slice_get_within}
 use Rattle.ht_word.specs.Words.{◌·◌}
 use Rattle.ht_word.proofs.WordLaws.{word_after}
-use Rattle.ht_share.specs.PondWalks.{IsNone, IsSettled}
-use Rattle.ht_share.proofs.ReturnLaws.{exit_stays, comes_first, goes_on, comes_further, none_further, unsettled, enough_steps}
+use Rattle.ht_share.specs.PondWalks.{IsSettled}
+use Rattle.ht_share.proofs.ReturnLaws.{exit_stays, comes_first, goes_on, comes_further, none_further, unsettled, settles}
 use Rattle.ht_flow.proofs.FlowingLaws.{typed_base}
 use Rattle.ht_share.proofs.SearchLaws.{inner_infinite}
 use Rattle.ht_share.proofs.search.pond_of.Goals as goal
@@ -21,6 +21,7 @@ loop-step-init c =
       there = comes_first t.element.shape t.element.rows t.quasi.basis.words c.args.word.now c.in_ok-exit.exit.letters c.extend.new.self c.in_ok-walk.walk p (word_after t.element.shape c.args.word.now c.in_ok-exit.exit.letters c.requires.inner.word e.of_shape)
           (c.in_ok-extend.ensures.ok ∙ ap (λ z. c.in_ok-walk.walk.rest ++ z) c.as_slice.ensures);
       none = λ j low high s. absurd (omega (arith, low, high, p.none));
+      unsettled = λ some s. absurd (omega (arith, some, p.none));
     }
 
 pub next_walk-requires-clause-under : goal.next_walk-requires-clause-under
@@ -51,11 +52,12 @@ loop-step-preserved c =
       steps = next ∙ ap (λ (k : ℕ). k + 1) c.loop-step.invariant.steps;
       there = there;
       none = none_further t.element.shape t.element.rows X c.args.word.now c.loop-step.walk.steps walk.steps next c.loop-step.invariant.none (unsettled base c.args.word.now letters walk c.requires.inner (omega (arith, next)) there open_still);
+      unsettled = λ some. open_still;
     }
 
-pub returns : goal.returns
-returns c =
-    let t = c.args.t.now in
-    let all : c.loop-step.walk.steps ≡ c.steps_enough-most.result = omega (arith, c.loop-step.invariant.steps, c.loop-step-test.false, c.loop-step.auto._step-end) in
-    enough_steps (typed_base t c.keeps_kinds.ensures) c.args.word.now c.in_ok-exit.exit c.steps_enough-most.result c.requires.inner c.in_ok-exit.ensures c.steps_enough-most.ensures
-    (subst (IsNone t.element.shape t.element.rows t.quasi.basis.words c.args.word.now) all c.loop-step.invariant.none)
+pub unreachable-requires : goal.unreachable-requires
+unreachable-requires c =
+    let on = c.loop-step.invariant in
+    let all : c.loop-step.walk.steps ≡ c.steps_enough-most.result = omega (arith, on.steps, c.loop-step-test.false, c.loop-step.auto._step-end) in
+    let last = settles (typed_base c.args.t.now c.keeps_kinds.ensures) c.args.word.now c.in_ok-exit.exit c.loop-step.walk c.steps_enough-most.result c.requires.inner c.in_ok-exit.ensures c.steps_enough-most.ensures on.there all in
+    on.unsettled last.0 last.1

@@ -2,22 +2,24 @@ use Rattle.std.proofs.Common.{◌<◌, List, ℕ, length, sym, ap, ◌∙◌, su
 use Rattle.std.proofs.lemmas.Option.{slice_get_within}
 use Rattle.ht_word.specs.Words.{◌·◌}
 use Rattle.ht_word.specs.declared.word.Word.{Word}
-use Rattle.ht_quasi.proofs.StepLaws.{splits_unmoved, splits_outside}
-use Rattle.ht_types.proofs.StepLaws.{splits_step, leads_there}
+use Rattle.ht_quasi.proofs.CarriedLaws.{carried_under}
+use Rattle.ht_quasi.proofs.StepLaws.{moved_carries, carried_moves}
+use Rattle.ht_types.proofs.StepLaws.{leads_there}
 use Rattle.ht_types.proofs.step.step_of.Goals as goal
 
 pub returns-in_default : goal.returns-in_default
-returns-in_default c =
-    let shape = c.args.a.now.shape in
-    let rows = c.args.a.now.rows in
-    splits_step shape rows c.args.basis.now.words c.args.word.now (splits_unmoved shape rows c.keeps_limits.ensures.canonical c.args.basis.now.words c.args.word.now (rw c.in_default.is at c.in_ok-moved.ensures))
+returns-in_default c = λ v carries.
+    let none = rw c.in_default.is at c.in_ok-moved.ensures in
+    none v (carried_moves c.args.a.now.shape c.args.a.now.rows c.keeps_limits.ensures.canonical c.args.word.now v carries)
 
-pub returns-in_default-find : goal.returns-in_default-find
-returns-in_default-find c =
+pub unreachable-requires : goal.unreachable-requires
+unreachable-requires c =
     let shape = c.args.a.now.shape in
     let rows = c.args.a.now.rows in
-    splits_step shape rows c.args.basis.now.words c.args.word.now
-    (splits_outside shape rows c.keeps_limits.ensures.canonical c.args.basis.now.words c.args.word.now c.in-Some.moved c.requires (rw c.in-Some.is at c.in_ok-moved.ensures) c.in_default-find.ensures)
+    let u = c.args.word.now in
+    let v = c.in-Some.moved in
+    let canonical = c.keeps_limits.ensures.canonical in
+    c.in_default-find.ensures (carried_under shape rows c.args.basis.now.words u v canonical.pair c.requires.basis c.requires.under (moved_carries shape rows canonical u v c.requires.word (rw c.in-Some.is at c.in_ok-moved.ensures)))
 
 pub at-requires : goal.at-requires
 at-requires c =
@@ -26,5 +28,5 @@ at-requires c =
 
 pub returns : goal.returns
 returns c =
-    leads_there c.args.a.now.shape c.args.a.now.rows c.keeps_limits.ensures.canonical c.args.basis.now.words c.words.result.now c.args.word.now c.in-Some.moved c.at.result.now c.in_ok-rest.rest c.in-Some-find.to c.requires
+    leads_there c.args.a.now.shape c.args.a.now.rows c.keeps_limits.ensures.canonical c.args.basis.now.words c.words.result.now c.args.word.now c.in-Some.moved c.at.result.now c.in_ok-rest.rest c.in-Some-find.to c.requires.word
     (rw c.in-Some.is at c.in_ok-moved.ensures) c.words.ensures.words c.at.ensures (c.in-Some-rest_after.ensures ∙ ap (λ (z : List ℕ). c.at.result.now · z) (sym c.in_ok-rest.ensures))

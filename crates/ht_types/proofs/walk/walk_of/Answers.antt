@@ -25,7 +25,7 @@ returns-in_default c =
     let d = directed c.args.direction t c.args.mover.now c.keeps_kinds.ensures c.requires.mover in
     let few = way_few c.args.direction t c.args.mover.now c.keeps_kinds.ensures c.requires.mover c.args.word.now c.walking.walk c.holds_few.ensures c.requires.infinite way in
     stops_stuck c.args.direction t.element.shape t.element.rows c.args.mover.now.rows t.quasi.basis.words d c.args.word.now c.walking.walk way
-    (mover_step c.args.direction t c.args.mover.now c.requires.mover t.quasi.basis.words (way.above · c.walking.walk.rest) Splits (rw c.in_default.is at (c.in_ok-to.ensures way.above way.walked.here))) (omega arith)
+    (mover_step c.args.direction t c.args.mover.now c.requires.mover t.quasi.basis.words (way.above · c.walking.walk.rest) Splits (rw c.in_default.is at (c.in_ok-to.ensures way.above way.walked.here))) c.requires.infinite (omega arith)
 
 pub overflow_add-walk : goal.overflow_add-walk
 overflow_add-walk c =
@@ -60,4 +60,4 @@ returns c =
     let d = directed c.args.direction t c.args.mover.now c.keeps_kinds.ensures c.requires.mover in
     let few = way_few c.args.direction t c.args.mover.now c.keeps_kinds.ensures c.requires.mover c.args.word.now c.walking.walk c.holds_few.ensures c.requires.infinite way in
     stops_ended c.args.direction t.element.shape t.element.rows c.args.mover.now.rows t.quasi.basis.words d c.args.word.now c.walking.walk way c.kind.result.now
-    (way_kind t c.keeps_kinds.ensures c.args.mover.now.rows c.args.word.now c.walking.walk way c.kind.result.now c.kind.ensures) (c.is_end.ensures.0 c.walking-test.false) (omega arith)
+    (way_kind t c.keeps_kinds.ensures c.args.mover.now.rows c.args.word.now c.walking.walk way c.kind.result.now c.kind.ensures) (c.is_end.ensures.0 c.walking-test.false) c.requires.infinite (omega arith)
