@@ -1,15 +1,27 @@
 -- Fetches, one after another.
-use Rattle.std.proofs.Common.{◌≡◌, ◌∙◌, refl, sym, inl, inr, ◌∷◌, ℕ, ◌-◌, ◌^◌, ◌<◌, ◌≤◌, List, [], ◌++◌, ◌+◌, arith}
+use Rattle.std.proofs.Common.{◌≡◌, ◌∙◌, refl, sym, inl, inr, ◌∷◌, ℕ, ◌-◌, ◌^◌, ◌<◌, ◌≤◌, List, [], ◌++◌, ◌+◌, length, length-append, arith}
 use Rattle.std.specs.Prelude.{Option, None, Some, IfSome, ◌⊎◌, count_by}
 use Rattle.std.proofs.lemmas.List.Elements.{All-nil, All-cons, All-append}
 use Rattle.std.proofs.lemmas.List.Sums.{sum_by-append}
-use Rattle.ht_out.specs.Counts.{Rose}
+use Rattle.ht_out.specs.Counts.{count_on, Rose}
 use Rattle.ht_out.specs.FileMaps.{file_of, Gives, Misses}
-use Rattle.ht_calc.specs.Fetches.{Fetched, MayGive, is_fault, AreFetches}
+use Rattle.ht_calc.specs.Fetches.{Fetched, MayGive, is_fault, AreFetches, AreAll, AreAmong}
+use Rattle.ht_calc.proofs.Streams.{count_more}
 
 -- no call, and no fault
 pub nothing_asked : (files : Option (List (List ℕ × List ℕ))) (count : ℕ) → AreFetches files count count []
 nothing_asked files count = record { each = All-nil (MayGive files); later = omega arith; faults = λ _. omega arith }
+
+pub none_made : (count : ℕ) → AreAll count count []
+none_made count = omega arith
+
+-- all of the first and all of the others
+pub all_more : (a b c : ℕ) (made others : List Fetched) → AreAll a b made → AreAll b c others → AreAll a c (made ++ others)
+all_more a b c made others first second = rw length-append (count_more a b c (length made) (length others) first second)
+
+-- some were made, and then maybe others
+pub made_later : (a b c : ℕ) (made : List Fetched) (before more : ℕ) → AreAll a b made → length made ≤ before → b ≤ c → c ≤ count_on b more → AreAmong a c made (before + more)
+made_later a b c made before more all few later most = (omega (arith, all), omega (arith, all, few, most))
 
 -- first some fetches, and then others
 pub asked_more : (files : Option (List (List ℕ × List ℕ))) (a b c : ℕ) (made others : List Fetched) → AreFetches files a b made → AreFetches files b c others → AreFetches files a c (made ++ others)

@@ -26,6 +26,10 @@ whole_after (x ∷ a) b p = rw (no_feed x p.0) (ap (onto_whole x) (whole_after a
 pub first_line : (a b : List ℕ) → IsOneLine a → lines_of (a ++ 10 ∷ b) ≡ a ∷ lines_of b
 first_line a b one = lines_after a b (recursion_from_All (λ y. y ≢ 10) a one)
 
+-- what is begun, and the end of that line
+pub next_line : (begun end after : List ℕ) → IsOneLine (begun ++ end) → lines_of (begun ++ (end ++ 10 ∷ after)) ≡ (begun ++ end) ∷ lines_of after
+next_line begun end after one = ap lines_of (sym (append_assoc begun end (10 ∷ after))) ∙ first_line (begun ++ end) after one
+
 first_whole : (a b : List ℕ) → IsOneLine a → whole_lines (a ++ 10 ∷ b) ≡ a ∷ whole_lines b
 first_whole a b one = whole_after a b (recursion_from_All (λ y. y ≢ 10) a one)
 

@@ -1,17 +1,19 @@
 -- Runs, line by line.
-use Rattle.std.proofs.Common.{◌≡◌, ℕ, ◌+◌, inl, inr, List, [], ◌∷◌, ◌++◌, ap, refl, sym, ◌∙◌, subst, append_assoc, append-nil, length-append, arith}
+use Rattle.std.proofs.Common.{◌≡◌, ◌≤◌, ℕ, suc, ◌+◌, inl, inr, List, [], ◌∷◌, ◌++◌, ap, refl, sym, ◌∙◌, subst, append_assoc, append-nil, length, length-append, take, arith}
 use Rattle.std.specs.Prelude.{Option, Any, IsTrue, ◌↔◌, ◌⊎◌}
 use Rattle.std.proofs.lemmas.Grind.{flat_map-append}
+use Rattle.std.proofs.lemmas.List.{take-append-le}
+use Rattle.std.proofs.Math.Seq.{take-length}
 use Rattle.std.proofs.lemmas.List.Elements.{Contains-append_left, Contains-push, Contains-push_cases}
 use Rattle.ht_answer.specs.declared.answer.Answer.{Answer}
 use Rattle.ht_answer.specs.Answers.{IsRefusal, answer_text}
 use Rattle.ht_calc.specs.declared.answering.Answering.{Answering}
-use Rattle.ht_calc.specs.Fetches.{Fetched, AreFetches}
+use Rattle.ht_calc.specs.Fetches.{Fetched, AreFetches, AreAll}
 use Rattle.ht_calc.specs.States.{State}
-use Rattle.ht_calc.specs.Steps.{Step}
+use Rattle.ht_calc.specs.Steps.{Step, by_line, by_file, no_line}
 use Rattle.ht_calc.specs.Runs.{Run, output_of}
-use Rattle.ht_calc.specs.Progress.{Origin, Answered}
-use Rattle.ht_calc.proofs.Fetching.{asked_more}
+use Rattle.ht_calc.specs.Progress.{Calls, Origin, Answered}
+use Rattle.ht_calc.proofs.Fetching.{asked_more, all_more}
 
 -- one more line
 run_more : (old mid end : State) (lines : List (List ℕ)) (fetches made : List Fetched) (answers : List Answer) (line : List ℕ) (answer : Answer)
@@ -45,18 +47,21 @@ any_more answers answer = (to, back)
         ]
 
 -- one more line is answered
-pub answered_more : (files : Option (List (List ℕ × List ℕ))) (before : Origin) (mid now : ℕ) (lines : List (List ℕ)) (line : List ℕ) (old new : Answering) (O all : List ℕ) (made : List Fetched) (answer : Answer)
-    → Answered files before mid lines old O → Step old.session line made answer new.session → AreFetches files mid now made
+pub answered_more : (files : Option (List (List ℕ × List ℕ))) (before : Origin) (mid now : Calls) (lines : List (List ℕ)) (line : List ℕ) (old new : Answering) (O all : List ℕ) (made : List Fetched) (answer : Answer)
+    → Answered files before mid lines old O → Step old.session line made answer new.session → AreFetches files mid.faults now.faults made → AreAll mid.asked now.asked made
     → new.lines ≡ old.lines + 1 → all ≡ O ++ answer_text answer → IsTrue new.some_refused ↔ (IsTrue old.some_refused ⊎ IsRefusal answer)
     → Answered files before now (lines ++ line ∷ []) new all
-answered_more files before mid now lines line old new O all made answer was step asked count text refused = record {
+answered_more files before mid now lines line old new O all made answer was step fetched all_fetched count text refused = record {
   count = rw length-append (omega (arith, was.count));
   fetches = was.fetches ++ made;
   answers = was.answers ++ answer ∷ [];
   run = run_more _ old.session new.session lines was.fetches made was.answers line answer was.run step;
-  asked = asked_more files before.faults mid now was.fetches made was.asked asked;
+  fetched = asked_more files before.calls.faults mid.faults now.faults was.fetches made was.fetched fetched;
+  all = all_more before.calls.asked mid.asked now.asked was.fetches made was.all all_fetched;
   output = text ∙ ap (λ (o : List ℕ). o ++ answer_text answer) was.output ∙ sym (flat_map-append answer_text was.answers (answer ∷ []) ∙ ap (λ (o : List ℕ). output_of was.answers ++ o) (append-nil (answer_text answer)));
   refusal = (λ is. (any_more was.answers answer).0 (onto (refused.0 is)), λ some. refused.1 (from ((any_more was.answers answer).1 some)));
+  reached = rw length-append (omega (arith, was.reached));
+  written = ap output_of (take-append-le before.done was.answers (answer ∷ []) was.reached) ∙ was.written;
 }
   where
     onto : IsTrue old.some_refused ⊎ IsRefusal answer → Any IsRefusal was.answers ⊎ IsRefusal answer
@@ -66,3 +71,43 @@ answered_more files before mid now lines line old new O all made answer was step
     from : Any IsRefusal was.answers ⊎ IsRefusal answer → IsTrue old.some_refused ⊎ IsRefusal answer
     from (inl some) = inl (was.refusal.1 some)
     from (inr is) = inr is
+
+-- each line has one answer
+pub run_counts : (old new : State) (lines : List (List ℕ)) (fetches : List Fetched) (answers : List Answer) → Run old lines fetches answers new → length answers ≡ length lines
+run_counts old new [] fetches [] run = refl
+run_counts old new (line ∷ lines) fetches (answer ∷ answers) run = ap suc (run_counts run.0 new lines run.2 answers run.4)
+run_counts old new [] fetches (answer ∷ answers) run = absurd run
+run_counts old new (line ∷ lines) fetches [] run = absurd run
+
+-- and makes one fetch at most
+step_asks : (old new : State) (line : List ℕ) (made : List Fetched) (answer : Answer) → Step old line made answer new → length made ≤ 1
+step_asks old _ line _ _ (by_line said answer new is does) = omega arith
+step_asks old _ line _ _ (by_file name file gives answer new is loads) = omega arith
+step_asks old _ line _ _ (no_line k none longest) = omega arith
+
+pub run_asks : (old new : State) (lines : List (List ℕ)) (fetches : List Fetched) (answers : List Answer) → Run old lines fetches answers new → length fetches ≤ length lines
+run_asks old new [] fetches [] run = let none = ap length run.0 in omega (arith, none)
+run_asks old new (line ∷ lines) fetches (answer ∷ answers) run =
+    let one = step_asks old run.0 line run.1 answer run.3 in
+    let others = run_asks run.0 new lines run.2 answers run.4 in
+    let all = ap length run.5 in
+    omega (arith, one, others, simp length-append at all)
+run_asks old new [] fetches (answer ∷ answers) run = absurd run
+run_asks old new (line ∷ lines) fetches [] run = absurd run
+
+-- how far a run has come is now
+pub answered_so_far : (files : Option (List (List ℕ × List ℕ))) (before : Origin) (now : Calls) (lines : List (List ℕ)) (answering : Answering) (O : List ℕ) → Answered files before now lines answering O
+    → Answered files (record before { done = length lines; written = O }) now lines answering O
+answered_so_far files before now lines answering O was =
+    let many = run_counts _ answering.session lines was.fetches was.answers was.run in record {
+      count = was.count;
+      fetches = was.fetches;
+      answers = was.answers;
+      run = was.run;
+      fetched = was.fetched;
+      all = was.all;
+      output = was.output;
+      refusal = was.refusal;
+      reached = omega (arith, many);
+      written = rw (← many) (ap output_of (take-length was.answers) ∙ sym was.output);
+    }

@@ -8,8 +8,9 @@ use Rattle.ht_calc.specs.declared.lines.Reading.{Reading}
 use Rattle.ht_calc.specs.declared.lines.Extent.{Extent}
 use Rattle.ht_calc.specs.declared.lines.Extent.TheVariants.{Within, Ended, TooLong}
 use Rattle.ht_calc.specs.ScriptLines.{lines_of, IsShort}
-use Rattle.ht_calc.specs.Progress.{IsOneLine, whole_text, IsCut, IsReady, Origin, Answered, Stands}
-use Rattle.ht_calc.proofs.LineLaws.{first_line, last_line, lines_behind, whole_behind, lines_now, all_counting, counting_before, within_limits, beyond_limits}
+use Rattle.ht_calc.specs.Progress.{IsOneLine, whole_text, IsCut, IsReady, Calls, Origin, Answered, Stands}
+use Rattle.ht_calc.proofs.RunLaws.{answered_so_far}
+use Rattle.ht_calc.proofs.LineLaws.{next_line, last_line, lines_behind, whole_behind, lines_now, all_counting, counting_before, within_limits, beyond_limits}
 
 -- no byte is read
 pub nothing_read : IsCut [] [] []
@@ -25,7 +26,7 @@ cut_line T lines begun end line cut one short few is = record {
   few = rw length-append (omega arith);
 }
 
-pub stands_line : (T O all : List ℕ) (files : Option (List (List ℕ × List ℕ))) (before : Origin) (mid now : ℕ) (old new : Reading) (end line : List ℕ)
+pub stands_line : (T O all : List ℕ) (files : Option (List (List ℕ × List ℕ))) (before : Origin) (mid now : Calls) (old new : Reading) (end line : List ℕ)
     → IsOneLine line → IsShort line → old.answering.lines < 65536 → line ≡ old.begun.items ++ end → new.begun.items ≡ []
     → (was : Stands Within T O files before mid old) → Answered files before now (was.lines ++ line ∷ []) new.answering all
     → Stands Within (T ++ (end ++ 10 ∷ [])) all files before now new
@@ -36,7 +37,7 @@ stands_line T O all files before mid now old new end line one short few is none 
 }
 
 -- a line was begun, or more of it
-pub stands_begun : (T O : List ℕ) (files : Option (List (List ℕ × List ℕ))) (before : Origin) (now : ℕ) (old new : Reading) (more : List ℕ)
+pub stands_begun : (T O : List ℕ) (files : Option (List (List ℕ × List ℕ))) (before : Origin) (now : Calls) (old new : Reading) (more : List ℕ)
     → new.answering ≡ old.answering → new.begun.items ≡ old.begun.items ++ more → Stands Within T O files before now old → Stands Within (T ++ more) O files before now new
 stands_begun T O files before now old new more same is was = record {
   lines = was.lines;
@@ -61,7 +62,7 @@ no_room lines begun more most full =
     ]
 
 -- the bytes go beyond the limits
-pub stands_over : (T O : List ℕ) (files : Option (List (List ℕ × List ℕ))) (before : Origin) (now : ℕ) (reading : Reading) (more next : List ℕ) (others : List (List ℕ))
+pub stands_over : (T O : List ℕ) (files : Option (List (List ℕ × List ℕ))) (before : Origin) (now : Calls) (reading : Reading) (more next : List ℕ) (others : List (List ℕ))
     → lines_of (reading.begun.items ++ more) ≡ next ∷ others → (reading.answering.lines ≡ 65536) ⊎ (65536 < length next)
     → Stands Within T O files before now reading → Stands TooLong (T ++ more) O files before now reading
 stands_over T O files before now reading more next others are why was =
@@ -82,17 +83,15 @@ stands_over T O files before now reading more next others are why was =
     counts (inr long) = inr long
 
 -- the next line, with its line feed, goes beyond the limits
-pub line_over : (T O : List ℕ) (files : Option (List (List ℕ × List ℕ))) (before : Origin) (now : ℕ) (reading : Reading) (end after : List ℕ)
+pub line_over : (T O : List ℕ) (files : Option (List (List ℕ × List ℕ))) (before : Origin) (now : Calls) (reading : Reading) (end after : List ℕ)
     → IsOneLine (reading.begun.items ++ end) → (reading.answering.lines ≡ 65536) ⊎ (65536 < length reading.begun.items + length end)
     → Stands Within T O files before now reading → Stands TooLong (T ++ (end ++ 10 ∷ after)) O files before now reading
 line_over T O files before now reading end after one why was =
     let next = reading.begun.items ++ end in
-    let are : lines_of (reading.begun.items ++ (end ++ 10 ∷ after)) ≡ next ∷ lines_of after =
-    ap lines_of (sym (append_assoc reading.begun.items end (10 ∷ after))) ∙ first_line next after one in
-    stands_over T O files before now reading (end ++ 10 ∷ after) next (lines_of after) are (rw length-append why) was
+    stands_over T O files before now reading (end ++ 10 ∷ after) next (lines_of after) (next_line reading.begun.items end after one) (rw length-append why) was
 
 -- what is begun, with these bytes, goes beyond the limits
-pub begun_over : (T O : List ℕ) (files : Option (List (List ℕ × List ℕ))) (before : Origin) (now : ℕ) (reading : Reading) (more : List ℕ)
+pub begun_over : (T O : List ℕ) (files : Option (List (List ℕ × List ℕ))) (before : Origin) (now : Calls) (reading : Reading) (more : List ℕ)
     → IsOneLine (reading.begun.items ++ more) → 0 < length more → (reading.answering.lines ≡ 65536) ⊎ (65536 < length reading.begun.items + length more)
     → Stands Within T O files before now reading → Stands TooLong (T ++ more) O files before now reading
 begun_over T O files before now reading more one some why was =
@@ -100,8 +99,14 @@ begun_over T O files before now reading more one some why was =
     let are = last_line next (rw length-append (omega arith)) one in
     stands_over T O files before now reading more next [] are (rw length-append why) was
 
+-- behind the next line there is one line less
+pub one_less : (n all : ℕ) (begun new end after rest : List ℕ) → IsOneLine (begun ++ end) → rest ≡ end ++ 10 ∷ after → new ≡ [] → n + length (lines_of (begun ++ rest)) ≤ all
+    → (n + 1) + length (lines_of (new ++ after)) ≤ all
+one_less n all begun new end after rest one is none few =
+    let are = ap length (ap (λ (r : List ℕ). lines_of (begun ++ r)) is ∙ next_line begun end after one) in rw none (omega (arith, are))
+
 -- the script ends with a line feed, or is empty
-pub stands_ended : (T O : List ℕ) (files : Option (List (List ℕ × List ℕ))) (before : Origin) (now : ℕ) (reading : Reading) → reading.begun.items ≡ []
+pub stands_ended : (T O : List ℕ) (files : Option (List (List ℕ × List ℕ))) (before : Origin) (now : Calls) (reading : Reading) → reading.begun.items ≡ []
     → Stands Within T O files before now reading → Stands Ended T O files before now reading
 stands_ended T O files before now reading none was =
     let are : lines_of T ≡ was.lines = lines_now T was.lines reading.begun.items was.read ∙ ap (λ (b : List ℕ). was.lines ++ lines_of b) none ∙ append-nil was.lines in record {
@@ -111,7 +116,7 @@ stands_ended T O files before now reading none was =
     }
 
 -- the last line was answered
-pub stands_last : (T O all : List ℕ) (files : Option (List (List ℕ × List ℕ))) (before : Origin) (mid now : ℕ) (old new : Reading)
+pub stands_last : (T O all : List ℕ) (files : Option (List (List ℕ × List ℕ))) (before : Origin) (mid now : Calls) (old new : Reading)
     → 0 < length old.begun.items → IsOneLine old.begun.items → IsShort old.begun.items → old.answering.lines < 65536
     → (was : Stands Within T O files before mid old) → Answered files before now (was.lines ++ old.begun.items ∷ []) new.answering all
     → Stands Ended T all files before now new
@@ -147,13 +152,18 @@ ready_anew reading none most = record {
 }
 
 -- the same library
-pub stands_told : (extent : Extent) (T O : List ℕ) (told same : Option (List (List ℕ × List ℕ))) (before : Origin) (now : ℕ) (reading : Reading) → told ≡ same
+pub stands_told : (extent : Extent) (T O : List ℕ) (told same : Option (List (List ℕ × List ℕ))) (before : Origin) (now : Calls) (reading : Reading) → told ≡ same
     → Stands extent T O told before now reading → Stands extent T O same before now reading
 stands_told extent T O told same before now reading is stands = subst (λ (files : Option (List (List ℕ × List ℕ))). Stands extent T O files before now reading) is stands
 
 -- before a text that is empty
-pub stands_anew : (T O text : List ℕ) (told same : Option (List (List ℕ × List ℕ))) (before : Origin) (now : ℕ) (reading : Reading) → text ≡ [] → told ≡ same
+pub stands_anew : (T O text : List ℕ) (told same : Option (List (List ℕ × List ℕ))) (before : Origin) (now : Calls) (reading : Reading) → text ≡ [] → told ≡ same
     → Stands Within T O told before now reading → Stands Within T (O ++ text) same before now reading
 stands_anew T O text told same before now reading none is stands =
     let behind : O ++ text ≡ O = ap (λ (t : List ℕ). O ++ t) none ∙ append-nil O in
     subst (λ (o : List ℕ). Stands Within T o same before now reading) (sym behind) (stands_told Within T O told same before now reading is stands)
+
+-- how far it has come is now
+pub stands_so_far : (T O : List ℕ) (files : Option (List (List ℕ × List ℕ))) (before : Origin) (now : Calls) (reading : Reading) → (was : Stands Within T O files before now reading)
+    → Stands Within T O files (record before { done = length was.lines; written = O }) now reading
+stands_so_far T O files before now reading was = record { lines = was.lines; read = was.read; answered = answered_so_far files before now was.lines reading.answering O was.answered }

@@ -2,6 +2,7 @@
 use Rattle.std.proofs.Common.{◌≡◌, ℕ, suc, List, [], ◌∷◌, length, Result, Ok, Err, IfOk, OnOk, Option, Some, refl, sym, ◌∙◌, subst}
 use Rattle.ht_word.specs.declared.shape.Shape.{Shape}
 use Rattle.ht_pair.specs.declared.row.Row.{Row}
+use Rattle.ht_out.specs.Counts.{next_count}
 use Rattle.ht_text.specs.Fronts.{IsLongestFront}
 use Rattle.ht_script.specs.declared.line.Line.{Line}
 use Rattle.ht_script.specs.declared.line.Line.TheVariants as line
@@ -11,13 +12,13 @@ use Rattle.ht_answer.specs.declared.answer.Answer.TheVariants.{Let, Refused}
 use Rattle.ht_answer.specs.declared.answer.Refusal.TheVariants as refusal
 use Rattle.ht_answer.specs.Answers.{IsRefusal}
 use Rattle.ht_script.specs.declared.factor.Factor.{Factor}
-use Rattle.ht_calc.specs.Fetches.{Fetched, AreFetches}
+use Rattle.ht_calc.specs.Fetches.{Fetched, AreFetches, AreAll}
 use Rattle.ht_calc.specs.Loads.{Loads, loaded, no_file, file_refused}
 use Rattle.ht_calc.specs.Names.{bind, HasRoom}
 use Rattle.ht_calc.specs.Products.{Term, StandFor, IsLargeProduct}
 use Rattle.ht_calc.specs.States.{State}
 use Rattle.ht_calc.specs.Steps.{Does, Step, blank, group_is_set, group_refused, before_group, unbound, no_room, over_budget, reduced, reduce_refused, let_bound, let_refused, product_bound, product_wide, product_large, questioned, parts_bound, parts_large, conjugator_bound, conjugator_not_kept, not_conjugate, undecided, compared, image_shown, image_foreign, share_told, by_line, by_file, no_line}
-use Rattle.ht_calc.proofs.Fetching.{nothing_asked}
+use Rattle.ht_calc.proofs.Fetching.{nothing_asked, none_made}
 
 -- a line that is refused changes nothing
 pub refused_keeps : (old : State) (line : Line) (answer : Answer) (new : State) → Does old line answer new → IsRefusal answer → new ≡ old
@@ -60,27 +61,27 @@ refused_step_keeps old bytes _ _ _ (by_file name file gives answer new is_line l
 refused_step_keeps old bytes _ _ _ (no_line k none longest) is = refl
 
 -- a line that asks for no file makes a step with no fetch
-pub alone : (old new : State) (said line : Line) (answer : Answer) (files : Option (List (List ℕ × List ℕ))) (faults : ℕ) (bytes : List ℕ) → said ≡ line → Does old line answer new → IsLine bytes said
-    → (made : List Fetched) × Step old bytes made answer new × AreFetches files faults faults made
-alone old new said line answer files faults bytes same does is = ([], by_line line answer new (subst (IsLine bytes) same is) does, nothing_asked files faults)
+pub alone : (old new : State) (said line : Line) (answer : Answer) (files : Option (List (List ℕ × List ℕ))) (faults asked : ℕ) (bytes : List ℕ) → said ≡ line → Does old line answer new → IsLine bytes said
+    → (made : List Fetched) × Step old bytes made answer new × AreFetches files faults faults made × AreAll asked asked made
+alone old new said line answer files faults asked bytes same does is = ([], by_line line answer new (subst (IsLine bytes) same is) does, nothing_asked files faults, none_made asked)
 
-pub alone_or_err : {E : Type 0} (old new : State) (said line : Line) (result : Result Answer E) (files : Option (List (List ℕ × List ℕ))) (faults : ℕ) (bytes : List ℕ) → said ≡ line
-    → IfOk result (λ answer. Does old line answer new) → IsLine bytes said → IfOk result (λ answer. (made : List Fetched) × Step old bytes made answer new × AreFetches files faults faults made)
-alone_or_err old new said line (Ok answer) files faults bytes same does is = alone old new said line answer files faults bytes same does is
-alone_or_err old new said line (Err e) files faults bytes same does is = tt
+pub alone_or_err : {E : Type 0} (old new : State) (said line : Line) (result : Result Answer E) (files : Option (List (List ℕ × List ℕ))) (faults asked : ℕ) (bytes : List ℕ) → said ≡ line
+    → IfOk result (λ answer. Does old line answer new) → IsLine bytes said → IfOk result (λ answer. (made : List Fetched) × Step old bytes made answer new × AreFetches files faults faults made × AreAll asked asked made)
+alone_or_err old new said line (Ok answer) files faults asked bytes same does is = alone old new said line answer files faults asked bytes same does is
+alone_or_err old new said line (Err e) files faults asked bytes same does is = tt
 
 -- a line that loads makes a step with one fetch
-pub fetched : (old new : State) (name file bytes : List ℕ) (said gives : Option (List ℕ)) (answer : Answer) (files : Option (List (List ℕ × List ℕ))) (before now : ℕ) → said ≡ gives
-    → Loads old name gives answer new → IsLine bytes (line.Load name file) → AreFetches files before now (record { file = file; gives = said } ∷ [])
-    → (made : List Fetched) × Step old bytes made answer new × AreFetches files before now made
-fetched old new name file bytes said gives answer files before now same loads is asked =
-    (record { file = file; gives = said } ∷ [], by_file name file said answer new is (subst (λ (g : Option (List ℕ)). Loads old name g answer new) (sym same) loads), asked)
+pub fetched : (old new : State) (name file bytes : List ℕ) (said gives : Option (List ℕ)) (answer : Answer) (files : Option (List (List ℕ × List ℕ))) (before now asked asked_now : ℕ) → said ≡ gives
+    → Loads old name gives answer new → IsLine bytes (line.Load name file) → AreFetches files before now (record { file = file; gives = said } ∷ []) → asked_now ≡ next_count asked
+    → (made : List Fetched) × Step old bytes made answer new × AreFetches files before now made × AreAll asked asked_now made
+fetched old new name file bytes said gives answer files before now asked asked_now same loads is fetches count =
+    (record { file = file; gives = said } ∷ [], by_file name file said answer new is (subst (λ (g : Option (List ℕ)). Loads old name g answer new) (sym same) loads), fetches, count)
 
-pub fetched_or_err : {E : Type 0} (old new : State) (name file bytes : List ℕ) (said gives : Option (List ℕ)) (result : Result Answer E) (files : Option (List (List ℕ × List ℕ))) (before now : ℕ) → said ≡ gives
-    → IfOk result (λ answer. Loads old name gives answer new) → IsLine bytes (line.Load name file) → AreFetches files before now (record { file = file; gives = said } ∷ [])
-    → IfOk result (λ answer. (made : List Fetched) × Step old bytes made answer new × AreFetches files before now made)
-fetched_or_err old new name file bytes said gives (Ok answer) files before now same loads is asked = fetched old new name file bytes said gives answer files before now same loads is asked
-fetched_or_err old new name file bytes said gives (Err e) files before now same loads is asked = tt
+pub fetched_or_err : {E : Type 0} (old new : State) (name file bytes : List ℕ) (said gives : Option (List ℕ)) (result : Result Answer E) (files : Option (List (List ℕ × List ℕ))) (before now asked asked_now : ℕ) → said ≡ gives
+    → IfOk result (λ answer. Loads old name gives answer new) → IsLine bytes (line.Load name file) → AreFetches files before now (record { file = file; gives = said } ∷ []) → asked_now ≡ next_count asked
+    → IfOk result (λ answer. (made : List Fetched) × Step old bytes made answer new × AreFetches files before now made × AreAll asked asked_now made)
+fetched_or_err old new name file bytes said gives (Ok answer) files before now asked asked_now same loads is fetches count = fetched old new name file bytes said gives answer files before now asked asked_now same loads is fetches count
+fetched_or_err old new name file bytes said gives (Err e) files before now asked asked_now same loads is fetches count = tt
 
 -- bytes that are no line are refused with the column behind their longest front
 pub syntax_refused : (old : State) (bytes : List ℕ) (column said : ℕ) → said ≡ column → IsNoLine bytes × (k : ℕ) × (column ≡ suc k) × IsLongestFront IsLineText bytes k

@@ -4,7 +4,10 @@
 --     MayGive files fetched                a library of these files, where it tells them, may answer so
 --     is_fault files fetched               it failed though the library has the name or tells nothing
 --     AreFetches files before now fetches  each may be given, and at most as many are faults as the count of faults rose by; nothing is said of a count at its last value
-use Rattle.std.specs.Prelude.{ℕ, ◌+◌, ◌-◌, ◌^◌, ◌<◌, ◌≤◌, ◌&&◌, List, Bool, true, Option, None, Some, All, IfSome, is_none, is_some, count_by}
+--     AreAll before now fetches            they are all that were made: the number of fetches made went up by theirs
+--     AreAmong before now fetches most     they were made, and maybe others: the number of fetches made went up by no less, and by no more than `most`
+use Rattle.std.specs.Prelude.{◌≡◌, ℕ, ◌+◌, ◌-◌, ◌^◌, ◌<◌, ◌≤◌, ◌&&◌, List, length, Bool, true, Option, None, Some, All, IfSome, is_none, is_some, count_by}
+use Rattle.ht_out.specs.Counts.{count_on}
 use Rattle.ht_out.specs.FileMaps.{file_of, Gives}
 
 pub record Fetched : Type 0 where
@@ -26,3 +29,9 @@ pub record AreFetches (files : Option (List (List ℕ × List ℕ))) (before now
   pub each : All (MayGive files) fetches
   pub later : before ≤ now
   pub faults : now < 2 ^ 64 - 1 → before + count_by (is_fault files) fetches ≤ now
+
+abbrev pub AreAll : ℕ → ℕ → List Fetched → Type 0
+AreAll before now fetches = now ≡ count_on before (length fetches)
+
+abbrev pub AreAmong : ℕ → ℕ → List Fetched → ℕ → Type 0
+AreAmong before now fetches most = (count_on before (length fetches) ≤ now) × (now ≤ count_on before most)

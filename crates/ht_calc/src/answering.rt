@@ -1,6 +1,7 @@
 //! Lines to answers.
 ghost use Rattle.std.specs.Prelude.{◌≡◌, ◌≤◌, ◌<◌, ◌∷◌, ◌++◌, ◌+◌, [], List, ℕ, Option, length, OnOk};
-ghost use Rattle.ht_calc.specs.Progress.{IsOneLine, Origin, Answered};
+ghost use Rattle.ht_out.specs.Counts.{next_count};
+ghost use Rattle.ht_calc.specs.Progress.{IsOneLine, Calls, Origin, Answered};
 
 use crate::Session;
 use ht_answer::print;
@@ -20,7 +21,7 @@ impl Answering {
     /// No line is answered yet. The budget is in expansions. Takes no memory.
     pub fn new(alloc: Global, budget: u32) -> Answering
         requires { (1 ≤ budget) × (budget ≤ 65536) }
-        ensures { (files : Option (List (List ℕ × List ℕ))) (faults : ℕ) → Answered files (record { budget = budget; faults = faults }) faults [] result [] }
+        ensures { (files : Option (List (List ℕ × List ℕ))) (calls : Calls) → Answered files (record { budget = budget; calls = calls; done = 0; written = [] }) calls [] result [] }
     {
         Answering {
             session: Session::new(alloc, budget),
@@ -57,11 +58,12 @@ impl Answering {
         requires one_line { IsOneLine line.now }
         requires few { self.old.lines < 65536 }
         ensures answered { (lines : List (List ℕ)) (O : List ℕ) (before : Origin)
-            → Answered (L.files files.old) before (L.faults files.old) lines self.old (O ++ text.old.items)
-            → OnOk result (Answered (L.files files.old) before (L.faults files.new) (lines ++ line.now ∷ []) self.new (O ++ text.new.items)) }
+            → Answered (L.files files.old) before (record { faults = L.faults files.old; asked = L.asked files.old }) lines self.old (O ++ text.old.items)
+            → OnOk result (Answered (L.files files.old) before (record { faults = L.faults files.new; asked = L.asked files.new }) (lines ++ line.now ∷ []) self.new (O ++ text.new.items)) }
         ensures count { OnOk result (self.new.lines ≡ self.old.lines + 1) }
         ensures files { L.files files.new ≡ L.files files.old }
         ensures later { L.faults files.old ≤ L.faults files.new }
+        ensures asked { (L.asked files.old ≤ L.asked files.new) × (L.asked files.new ≤ next_count (L.asked files.old)) }
     {
         let answer = self.session.answer(alloc, line, files)?;
         self.some_refused = self.some_refused || answer.is_refusal();

@@ -1,7 +1,9 @@
 //! Bytes to lines: a script that comes piece by piece.
 ghost use Rattle.std.specs.Prelude.{◌≡◌, ◌≤◌, ◌<◌, ◌+◌, ◌∷◌, ◌++◌, ◌↔◌, [], List, ℕ, Option, length, IsTrue, OnOk, IfOk};
+ghost use Rattle.ht_out.specs.Counts.{count_on, next_count};
 ghost use Rattle.ht_calc.specs.declared.lines.Extent.TheVariants.{Within};
-ghost use Rattle.ht_calc.specs.Progress.{IsOneLine, IsReady, Origin, Stands, GoesOn};
+ghost use Rattle.ht_calc.specs.ScriptLines.{lines_of};
+ghost use Rattle.ht_calc.specs.Progress.{IsOneLine, IsReady, Calls, Origin, Stands, GoesOn};
 
 use crate::answering::Answering;
 use ht_out::Library;
@@ -37,7 +39,7 @@ impl Reading {
     /// No byte is read yet. The budget is in expansions. Takes no memory.
     pub fn new(alloc: Global, budget: u32) -> Reading
         requires { (1 ≤ budget) × (budget ≤ 65536) }
-        ensures stands { (files : Option (List (List ℕ × List ℕ))) (faults : ℕ) → Stands Extent.Within [] [] files (record { budget = budget; faults = faults }) faults result }
+        ensures stands { (files : Option (List (List ℕ × List ℕ))) (calls : Calls) → Stands Extent.Within [] [] files (record { budget = budget; calls = calls; done = 0; written = [] }) calls result }
         ensures ready { IsReady result }
     {
         Reading {
@@ -66,12 +68,13 @@ impl Reading {
     ) -> Result<Extent, NoMemory>
         requires { IsReady self.old }
         ensures stands { (T O : List ℕ) (before : Origin)
-            → Stands Extent.Within T (O ++ text.old.items) (L.files files.old) before (L.faults files.old) self.old
-            → IfOk result (λ extent. Stands extent (T ++ bytes.now) (O ++ text.new.items) (L.files files.old) before (L.faults files.new) self.new) }
+            → Stands Extent.Within T (O ++ text.old.items) (L.files files.old) before (record { faults = L.faults files.old; asked = L.asked files.old }) self.old
+            → IfOk result (λ extent. Stands extent (T ++ bytes.now) (O ++ text.new.items) (L.files files.old) before (record { faults = L.faults files.new; asked = L.asked files.new }) self.new) }
         ensures ready { IfOk result (λ extent. extent ≡ Extent.Within → IsReady self.new × GoesOn self.old self.new) }
         ensures ended { IfOk result (λ extent. extent ≡ Extent.Ended → bytes.now ≡ []) }
         ensures files { L.files files.new ≡ L.files files.old }
         ensures later { L.faults files.old ≤ L.faults files.new }
+        ensures asked { (L.asked files.old ≤ L.asked files.new) × (L.asked files.new ≤ count_on (L.asked files.old) (length (lines_of (self.old.begun.items ++ bytes.now)))) }
     {
         if bytes.is_empty() {
             self.end(alloc, files, text)?;
@@ -109,12 +112,13 @@ impl Reading {
         requires few { self.old.answering.lines < 65536 }
         requires short { length self.old.begun.items + length end.now ≤ 65536 }
         ensures stands { (T O : List ℕ) (before : Origin)
-            → Stands Extent.Within T (O ++ text.old.items) (L.files files.old) before (L.faults files.old) self.old
-            → OnOk result (Stands Extent.Within (T ++ (end.now ++ 10 ∷ [])) (O ++ text.new.items) (L.files files.old) before (L.faults files.new) self.new) }
+            → Stands Extent.Within T (O ++ text.old.items) (L.files files.old) before (record { faults = L.faults files.old; asked = L.asked files.old }) self.old
+            → OnOk result (Stands Extent.Within (T ++ (end.now ++ 10 ∷ [])) (O ++ text.new.items) (L.files files.old) before (record { faults = L.faults files.new; asked = L.asked files.new }) self.new) }
         ensures count { OnOk result (self.new.answering.lines ≡ self.old.answering.lines + 1) }
         ensures begun { OnOk result (self.new.begun.items ≡ []) }
         ensures files { L.files files.new ≡ L.files files.old }
         ensures later { L.faults files.old ≤ L.faults files.new }
+        ensures asked { (L.asked files.old ≤ L.asked files.new) × (L.asked files.new ≤ next_count (L.asked files.old)) }
     {
         if self.begun.is_empty() {
             return self.answering.answer(alloc, end, files, text);
@@ -129,7 +133,7 @@ impl Reading {
     fn begin(&mut self, bytes: &[u8]) -> Result<Extent, NoMemory>
         requires ready { IsReady self.old }
         requires one_line { IsOneLine bytes.now }
-        ensures stands { (T O : List ℕ) (files : Option (List (List ℕ × List ℕ))) (before : Origin) (now : ℕ)
+        ensures stands { (T O : List ℕ) (files : Option (List (List ℕ × List ℕ))) (before : Origin) (now : Calls)
             → Stands Extent.Within T O files before now self.old
             → IfOk result (λ extent. Stands extent (T ++ bytes.now) O files before now self.new) }
         ensures ready { IfOk result (λ extent. extent ≡ Extent.Within → IsReady self.new
@@ -156,10 +160,11 @@ impl Reading {
     ) -> Result<(), NoMemory>
         requires { IsReady self.old }
         ensures stands { (T O : List ℕ) (before : Origin)
-            → Stands Extent.Within T (O ++ text.old.items) (L.files files.old) before (L.faults files.old) self.old
-            → OnOk result (Stands Extent.Ended T (O ++ text.new.items) (L.files files.old) before (L.faults files.new) self.new) }
+            → Stands Extent.Within T (O ++ text.old.items) (L.files files.old) before (record { faults = L.faults files.old; asked = L.asked files.old }) self.old
+            → OnOk result (Stands Extent.Ended T (O ++ text.new.items) (L.files files.old) before (record { faults = L.faults files.new; asked = L.asked files.new }) self.new) }
         ensures files { L.files files.new ≡ L.files files.old }
         ensures later { L.faults files.old ≤ L.faults files.new }
+        ensures asked { (L.asked files.old ≤ L.asked files.new) × (L.asked files.new ≤ count_on (L.asked files.old) (length (lines_of self.old.begun.items))) }
     {
         if self.begun.is_empty() {
             return Ok(());

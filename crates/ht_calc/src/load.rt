@@ -1,11 +1,12 @@
 //! Loads: elements from files.
 ghost use Rattle.std.specs.Prelude.{◌≡◌, ◌≤◌, ◌∷◌, [], ℕ, List, Option, Some, IfOk, OnErr};
 ghost use Rattle.std.specs.Option.{option_map};
+ghost use Rattle.ht_out.specs.Counts.{next_count};
 ghost use Rattle.ht_script.specs.declared.line.Line.TheVariants as line;
 ghost use Rattle.ht_script.specs.Lines.{IsLine};
 ghost use Rattle.ht_script.specs.Names.{IsFile};
 ghost use Rattle.ht_answer.specs.Answers.{HasAnswerText};
-ghost use Rattle.ht_calc.specs.Fetches.{Fetched, AreFetches};
+ghost use Rattle.ht_calc.specs.Fetches.{Fetched, AreFetches, AreAll};
 ghost use Rattle.ht_calc.specs.Loads.{IsFileRefusal, Loads};
 ghost use Rattle.ht_calc.specs.Names.{HasRoom};
 ghost use Rattle.ht_calc.specs.Steps.{Step};
@@ -33,11 +34,12 @@ impl Session {
     ) -> Result<Answer, NoMemory>
         requires { IsFile file.now }
         ensures step { (bytes : List ℕ) → IsLine bytes (line.Load name file.now) → IfOk result (λ answer. (made : List Fetched) × Step self.old bytes made answer self.new
-            × AreFetches (L.files files.old) (L.faults files.old) (L.faults files.new) made) }
+            × AreFetches (L.files files.old) (L.faults files.old) (L.faults files.new) made × AreAll (L.asked files.old) (L.asked files.new) made) }
         ensures text { IfOk result HasAnswerText }
         ensures err { OnErr result (self.new ≡ self.old) }
         ensures files { L.files files.new ≡ L.files files.old }
         ensures later { L.faults files.old ≤ L.faults files.new }
+        ensures asked { (L.asked files.old ≤ L.asked files.new) × (L.asked files.new ≤ next_count (L.asked files.old)) }
     {
         let Some(shape) = self.shape else {
             return Ok(Answer::Refused(Refusal::Group));
@@ -88,10 +90,11 @@ fn fetch_file<L: Library>(
     files: &mut L,
 ) -> Result<Option<Vec<u8>>, NoMemory>
     requires { IsFile file.now }
-    ensures asked { IfOk result (λ given. AreFetches (L.files files.old) (L.faults files.old) (L.faults files.new)
+    ensures fetched { IfOk result (λ given. AreFetches (L.files files.old) (L.faults files.old) (L.faults files.new)
         (record { file = file.now; gives = option_map (λ bytes. bytes.items) given } ∷ [])) }
     ensures files { L.files files.new ≡ L.files files.old }
     ensures later { L.faults files.old ≤ L.faults files.new }
+    ensures asked { L.asked files.new ≡ next_count (L.asked files.old) }
 {
     let Ok(file) = str::from_utf8(file.as_slice()) else {
         unreachable!()

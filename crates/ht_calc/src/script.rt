@@ -1,11 +1,11 @@
 //! A run over a whole script.
-ghost use Rattle.std.specs.Prelude.{◌≡◌, ◌≢◌, ◌≤◌, ◌<◌, ◌⊎◌, List, ℕ, length, map, string_bytes, take, OnOk, if◌then◌else◌};
+ghost use Rattle.std.specs.Prelude.{◌≡◌, ◌≢◌, ◌≤◌, ◌<◌, ◌⊎◌, List, ℕ, length, map, string_bytes, take, OnOk, OnErr, if◌then◌else◌};
 ghost use Rattle.std.specs.Io.KnownBytes.{Appends, IsAtEnd};
-ghost use Rattle.ht_out.specs.Counts.{Rose, HasCause};
 ghost use Rattle.clap.specs.Words.{Text};
 ghost use Rattle.ht_calc.specs.CommandLines.{AreBadWords, IsBudgetOf};
-ghost use Rattle.ht_calc.specs.Fetches.{Fetched, AreFetches};
-ghost use Rattle.ht_calc.specs.Tables.{Took, Table};
+ghost use Rattle.ht_calc.specs.Fetches.{Fetched, AreFetches, AreAll, AreAmong};
+ghost use Rattle.ht_calc.specs.ScriptLines.{lines_of};
+ghost use Rattle.ht_calc.specs.Tables.{Took, SourceFails, SinkFails, Table};
 
 use crate::Status;
 use crate::lines::{Extent, Reading};
@@ -16,8 +16,10 @@ use std::alloc::Global;
 /// Reads a script piece by piece, and answers its lines: before each further read the answers to
 /// all whole lines read so far are written. The words are those after the program's name, and give
 /// the budget, in expansions: `BadWords` comes where clap's definition of the command has a fault at
-/// them, unless no memory is found before. The first event ends the run, and the status says which;
-/// what it says of the bytes taken and written, and of the files fetched, is the clause `table`.
+/// them, unless no memory is found before. The first event ends the run, and the status says which:
+/// nothing that failed is tried again, each `load` of the table of steps makes one fetch, and no
+/// other line makes any. What the status says of the bytes taken and written, and of the files
+/// fetched, is the clause `table`.
 ///
 /// Reads into a buffer of 4,096 bytes; beside the answers to one buffer it keeps the line that is
 /// begun, of at most 65,536 bytes. One pass over the bytes, whatever their pieces, beside the time
@@ -35,7 +37,10 @@ pub fn run<S: Source, L: Library, K: Sink>(
         × Took (S.left script.old) (S.left script.new) (S.taken script.old) (S.taken script.new) T
         × Appends (K.held out.old) (K.held out.new) O
         × AreFetches (L.files files.old) (L.faults files.old) (L.faults files.new) fetches
-        × Table (map string_bytes words.now) (IsAtEnd (S.left script.new)) (Rose (S.faults script.old) (S.faults script.new)) (Rose (K.faults out.old) (K.faults out.new)) T fetches O result }
+        × Table (map string_bytes words.now) (IsAtEnd (S.left script.new)) (SourceFails S.left S.taken S.faults script.old script.new T) (SinkFails K.held K.faults out.old out.new O) (AreAll (L.asked files.old) (L.asked files.new) fetches)
+        (AreAmong (L.asked files.old) (L.asked files.new) fetches (length (lines_of T))) T fetches O result }
+    ensures source_kept { result ≢ Status.ReadFault → S.faults script.new ≡ S.faults script.old }
+    ensures sink_kept { result ≢ Status.WriteFault → K.faults out.new ≡ K.faults out.old }
     ensures files { L.files files.new ≡ L.files files.old }
 {
     match read_budget(alloc, words) {
@@ -58,7 +63,10 @@ fn run_script<S: Source, L: Library, K: Sink>(
         × Took (S.left script.old) (S.left script.new) (S.taken script.old) (S.taken script.new) T
         × Appends (K.held out.old) (K.held out.new) O
         × AreFetches (L.files files.old) (L.faults files.old) (L.faults files.new) fetches
-        × Table words (IsAtEnd (S.left script.new)) (Rose (S.faults script.old) (S.faults script.new)) (Rose (K.faults out.old) (K.faults out.new)) T fetches O result }
+        × Table words (IsAtEnd (S.left script.new)) (SourceFails S.left S.taken S.faults script.old script.new T) (SinkFails K.held K.faults out.old out.new O) (AreAll (L.asked files.old) (L.asked files.new) fetches)
+        (AreAmong (L.asked files.old) (L.asked files.new) fetches (length (lines_of T))) T fetches O result }
+    ensures source_kept { result ≢ Status.ReadFault → S.faults script.new ≡ S.faults script.old }
+    ensures sink_kept { result ≢ Status.WriteFault → K.faults out.new ≡ K.faults out.old }
     ensures files { L.files files.new ≡ L.files files.old }
 {
     let mut reading = Reading::new(alloc, budget);
@@ -96,8 +104,9 @@ fn ended(some_refused: bool) -> Status
 
 // Puts all of the text.
 fn write_all<K: Sink>(out: &mut K, text: &[u8]) -> Result<(), Failed>
-    ensures written { (k : ℕ) × (k ≤ length text.now) × Appends (K.held out.old) (K.held out.new) (take k text.now) × OnOk result (k ≡ length text.now) }
-    ensures cause { HasCause (K.faults out.old) (K.faults out.new) result }
+    ensures written { (k : ℕ) × (k ≤ length text.now) × Appends (K.held out.old) (K.held out.new) (take k text.now) × OnOk result (k ≡ length text.now)
+        × OnErr result (SinkFails K.held K.faults out.old out.new (take k text.now)) }
+    ensures kept { OnOk result (K.faults out.new ≡ K.faults out.old) }
 {
     let mut at = 0;
     'write: while at < text.len() {

@@ -6,10 +6,11 @@ ghost use Rattle.ht_pair.specs.declared.fault.RowsFault.TheVariants.{Large};
 ghost use Rattle.ht_pair.specs.Actions.{IsCanonical};
 ghost use Rattle.ht_pair.specs.RowsFaults.{IsRowsFault};
 ghost use Rattle.ht_text.specs.Texts.{rows_text};
+ghost use Rattle.ht_out.specs.Counts.{next_count};
 ghost use Rattle.ht_script.specs.declared.line.Line.TheVariants as line;
 ghost use Rattle.ht_script.specs.Lines.{IsLine};
 ghost use Rattle.ht_answer.specs.Answers.{IsRefusal, HasAnswerText};
-ghost use Rattle.ht_calc.specs.Fetches.{Fetched, AreFetches};
+ghost use Rattle.ht_calc.specs.Fetches.{Fetched, AreFetches, AreAll};
 ghost use Rattle.ht_calc.specs.LineNames.{asks};
 ghost use Rattle.ht_calc.specs.ShortLines.{HasShortRows, NamesFile};
 ghost use Rattle.ht_calc.specs.Names.{bind};
@@ -73,8 +74,9 @@ impl Session {
     /// `conj` takes it for both elements, and the sorting of the conjugator's rows. `ponds` and
     /// `share` take it and the steps of words that they follow (`ht_share::ponds`,
     /// `ht_share::Sharer`). A `load` makes one fetch, once the group is set and there is room for the
-    /// name, and no other line makes any: it takes memory for the bytes of the file, at most
-    /// 4,194,305, and a few passes over them, and as long as the sorting of the file's rows.
+    /// name, and no other line makes any; nor is there a second one where no memory is found. It takes
+    /// memory for the bytes of the file, at most 4,194,305, and a few passes over them, and as long as
+    /// the sorting of the file's rows.
     pub fn answer<L: Library>(
         &mut self,
         alloc: Global,
@@ -84,12 +86,13 @@ impl Session {
         requires length { length line.now ≤ 65536 }
         requires one_line { All (λ b. b ≢ 10) line.now }
         ensures step { IfOk result (λ answer. (made : List Fetched) × Step self.old line.now made answer self.new
-            × AreFetches (L.files files.old) (L.faults files.old) (L.faults files.new) made) }
+            × AreFetches (L.files files.old) (L.faults files.old) (L.faults files.new) made × AreAll (L.asked files.old) (L.asked files.new) made) }
         ensures refused { IfOk result (λ answer. IsRefusal answer → self.new ≡ self.old) }
         ensures text { IfOk result HasAnswerText }
         ensures err { OnErr result (self.new ≡ self.old) }
         ensures files { L.files files.new ≡ L.files files.old }
         ensures later { L.faults files.old ≤ L.faults files.new }
+        ensures asked { (L.asked files.old ≤ L.asked files.new) × (L.asked files.new ≤ next_count (L.asked files.old)) }
     {
         match read_line(alloc, line) {
             Ok(line) => self.answer_to(alloc, line, files),
@@ -108,11 +111,12 @@ impl Session {
         requires short { HasShortRows line }
         requires file { NamesFile line }
         ensures step { (bytes : List ℕ) → IsLine bytes line → IfOk result (λ answer. (made : List Fetched) × Step self.old bytes made answer self.new
-            × AreFetches (L.files files.old) (L.faults files.old) (L.faults files.new) made) }
+            × AreFetches (L.files files.old) (L.faults files.old) (L.faults files.new) made × AreAll (L.asked files.old) (L.asked files.new) made) }
         ensures text { IfOk result HasAnswerText }
         ensures err { OnErr result (self.new ≡ self.old) }
         ensures files { L.files files.new ≡ L.files files.old }
         ensures later { L.faults files.old ≤ L.faults files.new }
+        ensures asked { (L.asked files.old ≤ L.asked files.new) × (L.asked files.new ≤ next_count (L.asked files.old)) }
     {
         match line {
             Line::Blank => Ok(Answer::Blank),

@@ -65,18 +65,22 @@ impl Library for MemLibrary {
 
     ghost faults = { λ s. s.faults };
 
+    ghost asked = { λ s. s.calls };
+
     fn fetch(&mut self, alloc: Global, name: &str, most: usize) -> Result<Vec<u8>, Fetch>
         requires { most < 2 ^ 64 - 1 }
         ensures files { Some self.new.files ≡ Some self.old.files }
         ensures length { IfOk result (λ bytes. length bytes.items ≤ most + 1) }
         ensures bytes { IfOk result (λ bytes. Gives self.old.files name.now most bytes.items) }
         ensures later { self.old.faults ≤ self.new.faults }
+        ensures kept { IfOk result (λ bytes. self.new.faults ≡ self.old.faults) }
         ensures failed { IsErrOf result Fetch.Failed → Rose self.old.faults self.new.faults ⊎ Misses (Some self.old.files) name.now }
+        ensures counted { self.new.calls ≡ next_count self.old.calls }
 
         ensures exact { IsErrOf result Fetch.Failed ↔ (Contains self.old.fail self.old.calls ⊎ Misses (Some self.old.files) name.now) }
-        ensures counted { Contains self.old.fail self.old.calls → self.new.faults ≡ next_count self.old.faults }
-        ensures kept { ¬ Contains self.old.fail self.old.calls → self.new.faults ≡ self.old.faults }
-        ensures rest { (self.new.calls ≡ next_count self.old.calls) × (self.new.fail ≡ self.old.fail) }
+        ensures listed { Contains self.old.fail self.old.calls → self.new.faults ≡ next_count self.old.faults }
+        ensures unlisted { ¬ Contains self.old.fail self.old.calls → self.new.faults ≡ self.old.faults }
+        ensures rest { self.new.fail ≡ self.old.fail }
     {
         let failing = self.fail.contains(&self.calls);
         self.calls = self.calls.saturating_add(1);

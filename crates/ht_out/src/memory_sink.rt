@@ -1,5 +1,5 @@
 //! A sink into memory.
-ghost use Rattle.std.specs.Prelude.{◌≡◌, ◌<◌, ◌≤◌, ◌+◌, ◌-◌, ◌^◌, ◌↔◌, ◌⊎◌, [], Some, min, length, IsErr, IfOk, All, Contains};
+ghost use Rattle.std.specs.Prelude.{◌≡◌, ◌<◌, ◌≤◌, ◌+◌, ◌-◌, ◌^◌, ◌↔◌, ◌⊎◌, [], Some, min, length, IsErr, IfOk, OnErr, All, Contains};
 ghost use Rattle.std.specs.Io.KnownBytes.{WriteAppends};
 ghost use Rattle.ht_out.specs.Counts.{HasCause, next_count};
 
@@ -9,7 +9,7 @@ use std::alloc::Global;
 use std::marker::Model;
 
 /// Bytes in memory, up to a room that is taken at once. Fails exactly at the calls whose numbers
-/// are listed, and where the room is full.
+/// are listed, and where the room is full; each time the count of faults rises by one.
 #[derive(Drop)]
 pub struct MemSink {
     bytes: Vec<u8>,
@@ -84,7 +84,7 @@ impl Sink for MemSink {
         // A call fails exactly where its number is listed or the room is full, and each other takes what it can.
         ensures failed { IsErr result ↔ (Contains self.old.fail self.old.calls ⊎ (self.old.room ≤ length self.old.held)) }
         ensures count { IfOk result (λ n. n ≡ min self.old.piece (min (length bytes.now) (self.old.room - length self.old.held))) }
-        ensures kept { IfOk result (λ n. self.new.faults ≡ self.old.faults) }
+        ensures counted { OnErr result (self.new.faults ≡ next_count self.old.faults) }
         ensures rest { (self.new.calls ≡ next_count self.old.calls) × (self.new.room ≡ self.old.room) × (self.new.piece ≡ self.old.piece) × (self.new.fail ≡ self.old.fail) }
     {
         let failing = self.fail.contains(&self.calls);

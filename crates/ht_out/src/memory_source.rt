@@ -7,7 +7,8 @@ ghost use Rattle.ht_out.specs.Counts.{HasCause, Takes, next_count};
 use crate::{Failed, Source};
 use std::marker::Model;
 
-/// Bytes in memory, given in pieces. Fails exactly at the calls whose numbers are listed.
+/// Bytes in memory, given in pieces. Fails exactly at the calls whose numbers are listed, and each
+/// time the count of faults rises by one.
 #[derive(Drop)]
 pub struct MemSource {
     bytes: Vec<u8>,
@@ -75,7 +76,7 @@ impl Source for MemSource {
         // A call fails exactly where its number is listed, and each other takes what it can.
         ensures failed { IsErr result ↔ Contains self.old.fail self.old.calls }
         ensures count { IfOk result (λ n. n ≡ min self.old.piece (min (length buf.old) (length self.old.left))) }
-        ensures kept { IfOk result (λ n. self.new.faults ≡ self.old.faults) }
+        ensures counted { OnErr result (self.new.faults ≡ next_count self.old.faults) }
         ensures rest { (self.new.calls ≡ next_count self.old.calls) × (self.new.piece ≡ self.old.piece) × (self.new.fail ≡ self.old.fail) }
     {
         let failing = self.fail.contains(&self.calls);

@@ -6,7 +6,7 @@ use Rattle.ht_calc.proofs.answering.Answering.answer.Goals.{then-self, else-self
 
 pub returns-clause-answered : goal.returns-clause-answered
 returns-clause-answered g c = λ lines O before was.
-    answered_more _ before _ _ lines c.args.line.now _ _ _ _ c.in_ok-answer.ensures.step.0 c.in_ok-answer.answer was c.in_ok-answer.ensures.step.1 c.in_ok-answer.ensures.step.2
+    answered_more _ before _ _ lines c.args.line.now _ _ _ _ c.in_ok-answer.ensures.step.0 c.in_ok-answer.answer was c.in_ok-answer.ensures.step.1 c.in_ok-answer.ensures.step.2 c.in_ok-answer.ensures.step.3
     refl
     (ap (λ (text : List ℕ). O ++ text) c.in_ok-print.ensures.ok ∙ sym (append_assoc O c.args.text.now.items (answer_text c.in_ok-answer.answer)))
     (elim c.if-self.branch [

@@ -1,6 +1,6 @@
 use Rattle.std.proofs.Common.{◌∷◌, [], ◌++◌, sym, ◌∙◌, arith, vec_len}
 use Rattle.std.proofs.lemmas.Result.{on_ok_weaker}
-use Rattle.ht_calc.specs.Progress.{Answered}
+use Rattle.ht_calc.specs.Progress.{Calls, Answered}
 use Rattle.ht_calc.proofs.Standing.{stands_ended, stands_last, no_bytes, some_bytes}
 use Rattle.ht_calc.proofs.lines.Reading.end.Goals as goal
 
@@ -13,8 +13,8 @@ returns-then-is_empty-clause-stands g c = λ T O before was.
 pub returns-clause-stands : goal.returns-clause-stands
 returns-clause-stands g c = λ T O before was.
     let told = g.L.Library.files c.args.files.now in
-    let mid = g.L.Library.faults c.args.files.now in
-    let now = g.L.Library.faults c.answer.new.files in
+    let mid : Calls = record { faults = g.L.Library.faults c.args.files.now; asked = g.L.Library.asked c.args.files.now } in
+    let now : Calls = record { faults = g.L.Library.faults c.answer.new.files; asked = g.L.Library.asked c.answer.new.files } in
     let begun = c.args.self.now.begun.items in
     let all = O ++ c.answer.new.text.items in
     let some = some_bytes begun (vec_len c.args.self.now.begun) (omega (arith, c.args.self.now.begun.ok.0)) (sym c.is_empty.ensures ∙ c.if-is_empty.false) in
