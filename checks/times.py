@@ -9,23 +9,13 @@ import subprocess
 import sys
 import tempfile
 
-from common.words import all_letters, behind, rows_text
+from common.words import all_letters, behind, file_text, turned_words
 
 
 def words_of(length, expanded=0):
     """All words of so many letters, the first ones expanded."""
     words = [(1, z) for z in all_letters(2, length)]
     return [behind(w, (c,)) for w in words[:expanded] for c in (1, 2)] + words[expanded:]
-
-
-def file_text(rows):
-    lines = "".join(rows_text([row]) + "\n" for row in rows)
-    return f"ht-element 1\ngroup 2 1\nrows {len(rows)}\n{lines}end\n"
-
-
-def turned_words():
-    """8,192 rows, each word of 13 letters to the same letters in the other order: nothing merges."""
-    return [(w, (1, w[1][::-1])) for w in words_of(13)]
 
 
 def permuted(words):
@@ -133,7 +123,7 @@ def asked():
 
 def cases():
     """The name, the script, the files, the seconds, and what the last line of output begins with."""
-    element = file_text(turned_words())
+    element = file_text(turned_words(13))
     most = file_text([(w, w) for w in words_of(16, 35_740)])
     yield "65,536 short lines", "group 2 1\nlet a = x1>x1\n" + "show a\n" * 65_534, {}, 1, "x1>x1"
     yield "ten loads of 8,192 rows", "group 2 1\n" + "load a a.ht\n" * 10, {"a.ht": element}, 2, "load a 8192"

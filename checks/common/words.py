@@ -14,6 +14,17 @@ def rows_text(rows):
     return ";".join(f"{text(u)}>{text(v)}" for u, v in rows)
 
 
+def file_text(rows):
+    """The element file of rows of G(2,1)."""
+    lines = "".join(rows_text([row]) + "\n" for row in rows)
+    return f"ht-element 1\ngroup 2 1\nrows {len(rows)}\n{lines}end\n"
+
+
+def turned_words(length):
+    """The rows from each word of this length to the same letters in the other order: nothing merges."""
+    return [((1, z), (1, z[::-1])) for z in all_letters(2, length)]
+
+
 def parse_word(s):
     root, _, letters = s[1:].partition(".")
     return int(root), tuple(map(int, letters))

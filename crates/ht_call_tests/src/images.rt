@@ -1,47 +1,74 @@
-//! Images of a word under powers.
+//! Images under many steps.
 ghost use Rattle.std.specs.Prelude.{◌≡◌, IfOk};
 ghost use Rattle.ht_pair.specs.ValueLists.{IsValueList};
 
+use crate::texts::{add_word, element_of};
 use ht_ops::Image;
-use ht_pair::Element;
-use ht_text::read_rows;
-use ht_word::{Shape, Word};
+use ht_text::read_word;
+use ht_word::Shape;
 use std::alloc::Global;
+use std::process::Abort;
 use std::test::Fail;
 
-// An element that sends the cone of x1.1 below itself.
-fn shift(alloc: Global) -> Result<Element, Fail> {
-    let rows = read_rows(alloc, b"x1.1>x1.11;x1.21>x1.12;x1.22>x1.2")?.ok_or("no rows")?;
-    Ok(Element::of_rows(alloc, Shape::new(2, 1)?, rows)?)
-}
-
-// All words under the root.
-fn whole_cone(alloc: Global, element: &Element) -> Result<Image, Fail>
-    ensures { IfOk result (IsValueList element.now.shape) }
+// The words under the word of a text.
+fn cone_in(rt: &impl Abort, alloc: Global, shape: Shape, text: &str) -> Result<Image, Fail>
+    ensures { IfOk result (IsValueList shape) }
 {
-    let _shape = element.shape();
-    Ok(Image::cone(alloc, Word::new(alloc, 1))?)
+    let word = read_word(alloc, text.as_bytes())?.ok_or("no word")?;
+    if !shape.holds(&word) {
+        panic!(rt; "{text} is a word of another shape")
+    }
+    Ok(Image::cone(alloc, word)?)
 }
 
-#[test]
-fn an_image_follows_a_step(rt: HostRuntime) -> Result<(), Fail> {
-    let alloc = rt.alloc();
-    let element = shift(alloc)?;
-    let cone = whole_cone(alloc, &element)?;
-    assert!(rt; cone.as_word().is_some());
-    let image = cone.copy(alloc)?.step(alloc, &element)?;
-    assert!(rt; image.as_word().is_none());
-    let rows = image.rows_under(alloc, &Word::new(alloc, 1))?;
-    assert_eq!(rt; rows.len(), 3);
-    Ok(())
+// The words to which the k-th power of the element of the rows sends the cone of the word, in order.
+fn image_text(
+    rt: &impl Abort,
+    alloc: Global,
+    rows: &str,
+    word: &str,
+    k: i128,
+) -> Result<String, Fail> {
+    let shape = Shape::new(2, 1)?;
+    let cone = cone_in(rt, alloc, shape, word)?;
+    let image = cone.steps(alloc, &element_of(alloc, shape, rows)?, k)?;
+    let mut text = String::new(alloc);
+    for row in image
+        .rows_under(alloc, &ht_word::Word::new(alloc, 1))?
+        .as_slice()
+    {
+        add_word(alloc, &row.to, &mut text)?;
+    }
+    Ok(text)
 }
 
+// The word of so many equal letters.
+fn long_text(alloc: Global, letter: char, count: u32) -> Result<String, Fail> {
+    let mut text = String::from_str(alloc, "x1.")?;
+    for _ in 0..count {
+        text.push(letter)?;
+    }
+    text.push(' ')?;
+    Ok(text)
+}
+
+const THIRD: &str = "x1.1>x1.21;x1.21>x1.22;x1.22>x1.1";
+
+const SHIFT: &str = "x1.1>x1.11;x1.21>x1.12;x1.22>x1.2";
+
+// An element of order 3, and one that puts a letter before its attractor's words at each step, and
+// whose powers are soon too large to be elements.
 #[test]
-fn an_image_follows_a_power(rt: HostRuntime) -> Result<(), Fail> {
+fn images_follow_many_steps(rt: HostRuntime) -> Result<(), Fail> {
     let alloc = rt.alloc();
-    let element = shift(alloc)?;
-    let image = whole_cone(alloc, &element)?.steps(alloc, &element, -3)?;
-    let rows = image.rows_under(alloc, &Word::new(alloc, 1))?;
-    assert_eq!(rt; rows.len(), 5);
+    let many = 100_000_000_000_000_000_000;
+    let once = image_text(&rt, alloc, THIRD, "x1", many)?;
+    assert_eq!(rt; once.as_str(), "x1.21 x1.22 x1.1 ");
+    let back = image_text(&rt, alloc, THIRD, "x1", -many)?;
+    assert_eq!(rt; back.as_str(), "x1.22 x1.1 x1.21 ");
+    let ahead = image_text(&rt, alloc, SHIFT, "x1.1", 1_100)?;
+    assert_eq!(rt; ahead.as_str(), long_text(alloc, '1', 1_101)?.as_str());
+    let behind = image_text(&rt, alloc, SHIFT, "x1.2", -1_100)?;
+    assert_eq!(rt; behind.as_str(), long_text(alloc, '2', 1_101)?.as_str());
     Ok(())
 }

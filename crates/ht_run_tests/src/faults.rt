@@ -29,7 +29,7 @@ fn run_pieces(
 }
 
 // The call with this number, from 0, fails.
-fn fails_at(alloc: Global, k: u32) -> Result<Vec<u64>, Fail>
+pub(crate) fn fails_at(alloc: Global, k: u32) -> Result<Vec<u64>, Fail>
     ensures { IfOk result (λ calls. All (λ k. k < 2 ^ 64 - 1) calls.items) }
 {
     Ok(vec![in alloc; u64::from(k); 1]?)
