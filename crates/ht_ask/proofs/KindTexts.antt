@@ -16,8 +16,8 @@ use Rattle.ht_types.specs.WordKinds.{IsAhead, IsBehind, HasKind, AreKinds}
 use Rattle.ht_text.specs.Texts.{HasText}
 use Rattle.ht_text.proofs.CanonicalTexts.{word_has_text, letters_are_digits}
 use Rattle.ht_answer.specs.KindTexts.{HasWholeText, HasReachText, HasKindText, HasTypesText}
-use Rattle.ht_types.proofs.KindsLaws.{some_at}
 use Rattle.ht_ask.proofs.QuestionTexts.{basis_has_text}
+use Rattle.ht_quasi.proofs.RoundLaws.{something_at}
 
 -- a word that a power carries to is one of the shape
 reached_text : (shape : Shape) (p : List Row) (X words : List Word) (reach : Reach) (above : Word) → words ≡ X → slice_get X reach.to ≡ Some above → IsWordOf shape (above · reach.rest) → HasWholeText words reach
@@ -52,6 +52,6 @@ kinds_have_text shape p X words kinds pair basis same are =
       words_have_texts = texts.1;
       as_many = are.as_many ∙ sym (ap length same);
       kinds_have_texts = All-from_contains (HasKindText words) kinds (λ kind c.
-          let x = some_at X c.0 (let l = c.1 in omega (arith, l, are.as_many)) in
+          let x = something_at X c.0 (let l = c.1 in omega (arith, l, are.as_many)) in
           kind_has_text shape p pair X words x.0 kind same (are.each c.0 x.0 kind x.1 (slice_get-get_or kinds c.0 kind c.1 ∙ ap (λ (k : Kind). Some k) c.2)));
     }

@@ -7,7 +7,7 @@ ghost use Rattle.ht_ask.specs.ShareAnswers.{TellsShare};
 
 use crate::typed::typed_of;
 use ht_answer::{Answer, Refusal};
-use ht_pair::Element;
+use ht_pair::{Basis, Element};
 use ht_quasi::QuasiFault;
 use ht_share::Sharer;
 use ht_types::{Sharing, Typed};
@@ -47,5 +47,12 @@ pub fn share_of(
 fn is_under(typed: &Typed, word: &Word) -> bool
     ensures { IsTrue result ↔ IsUnderSome word.now typed.now.quasi.basis.words }
 {
-    typed.quasi().basis.find(word).is_some()
+    is_under_basis(&typed.quasi().basis, word)
+}
+
+// The same of a basis.
+fn is_under_basis(basis: &Basis, word: &Word) -> bool
+    ensures { IsTrue result ↔ IsUnderSome word.now basis.now.words }
+{
+    basis.find(word).is_some()
 }

@@ -2,13 +2,8 @@
 use Rattle.std.proofs.Common.{◌≡◌, ◌<◌, ◌⊎◌, ℕ, List, length, sym, ap, ◌∙◌, subst}
 use Rattle.ht_word.specs.declared.shape.Shape.{Shape}
 use Rattle.ht_pair.specs.declared.row.Row.{Row}
-use Rattle.ht_pair.specs.declared.fault.OpFault as op
-use Rattle.ht_pair.specs.declared.fault.OpFault.TheVariants as op_fault
-use Rattle.ht_pair.specs.declared.fault.RowsFault.{RowsFault}
-use Rattle.ht_pair.specs.declared.fault.RowsFault.TheVariants as rows_fault
 use Rattle.ht_pair.specs.Actions.{IsCanonical, IsCanonicalFor}
 use Rattle.ht_pair.specs.Elements.{ElementValue, IsElement}
-use Rattle.ht_pair.specs.RowsFaults.{IsRowsFault}
 use Rattle.ht_pair.specs.Sizes.{IsLarge}
 use Rattle.ht_pair.proofs.AlikeLaws.{alike_refl}
 use Rattle.ht_pair.proofs.CanonicalLaws.{canonical_unique}
@@ -26,7 +21,7 @@ kept_small shape rows copy element canonical same is small =
     (is.0, rows_are, subst (λ (p : List Row). IsElement shape p) rows_are (subst (λ (s : Shape). IsElement s element.rows) is.0 small))
 
 -- beyond them they are large
-own_size : (shape : Shape) (rows copy : List Row) (count letters : ℕ) → IsCanonical shape rows → copy ≡ rows → IsLarge shape copy count letters → IsLarge shape rows (length rows) letters
+pub own_size : (shape : Shape) (rows copy : List Row) (count letters : ℕ) → IsCanonical shape rows → copy ≡ rows → IsLarge shape copy count letters → IsLarge shape rows (length rows) letters
 own_size shape rows copy count letters canonical same large =
     let size = large.0 in
     let rows_are = own_form shape rows copy size.canonical canonical same size.is_canonical in
@@ -34,8 +29,3 @@ own_size shape rows copy count letters canonical same large =
       record { canonical = size.canonical; is_canonical = subst (IsCanonicalFor shape size.canonical) same size.is_canonical; rows_is = sym count_is ∙ size.rows_is; letters_is = size.letters_is },
       subst (λ (k : ℕ). (8192 < k) ⊎ (1024 < letters)) count_is large.1,
     )
-
-pub kept_large : (shape : Shape) (rows copy : List Row) (came : RowsFault) (passed : op.OpFault) (count letters : ℕ) → IsCanonical shape rows → copy ≡ rows → IsRowsFault shape copy came
-    → ((k l : ℕ) → passed ≡ op_fault.Large k l → came ≡ rows_fault.Large k l) → passed ≡ op_fault.Large count letters → IsLarge shape rows (length rows) letters
-kept_large shape rows copy came passed count letters canonical same says by is =
-    own_size shape rows copy count letters canonical same (subst (IsRowsFault shape copy) (by count letters is) says).1

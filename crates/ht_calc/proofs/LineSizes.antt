@@ -20,7 +20,7 @@ use Rattle.ht_script.specs.declared.line.Line.{Line}
 use Rattle.ht_script.specs.declared.line.Line.TheVariants.{Blank, Group, Reduce, LetRows, LetProduct, Show, Equal, Image, Load, Basis, Order, Types, Profile, Parts, Conj, Ponds, Share}
 use Rattle.ht_script.specs.Tokens.{IsSpaces, Is, IsSpaced, ◌▸◌}
 use Rattle.ht_script.specs.Lines.{AreRows, IsNamed, IsLine}
-use Rattle.ht_script.specs.Names.{IsFile}
+use Rattle.ht_script.specs.Names.{IsFileName}
 use Rattle.ht_calc.specs.ShortLines.{HasShortRows, NamesFile}
 use Rattle.ht_text.proofs.CanonicalTexts.{pair_has_texts}
 
@@ -150,7 +150,7 @@ names_file bytes (LetProduct name factors) is = tt
 names_file bytes (Show name) is = tt
 names_file bytes (Equal first second) is = tt
 names_file bytes (Image name word) is = tt
-names_file bytes (Load name file) is = let named = is.fits.1.fits.1.fits.0 in subst IsFile named.1 named.0
+names_file bytes (Load name file) is = let named = is.fits.1.fits.1.fits.0 in subst IsFileName named.1 named.0
 names_file bytes (Basis name) is = tt
 names_file bytes (Order name) is = tt
 names_file bytes (Types name) is = tt

@@ -9,7 +9,7 @@ use Rattle.ht_pair.specs.declared.row.Row.{Row}
 use Rattle.ht_pair.specs.Pairs.{IsPair, longest_of}
 use Rattle.ht_pair.specs.Actions.{IsCanonicalFor}
 use Rattle.ht_text.specs.Files.{IsFileOf}
-use Rattle.ht_script.specs.Names.{IsFileStart, IsFileByte, IsFile}
+use Rattle.ht_script.specs.Names.{IsFileStart, IsFileByte, IsFileName}
 use Rattle.ht_answer.specs.declared.answer.Answer.TheVariants.{Load}
 use Rattle.ht_calc.specs.Loads.{Loads, loaded}
 use Rattle.ht_calc.specs.Names.{bind, HasRoom}
@@ -33,7 +33,7 @@ all_low (b ∷ bytes) are zero = byte_low b (All-head IsFileByte b bytes are)
 all_low (b ∷ bytes) are (suc i) = all_low bytes (All-tail IsFileByte b bytes are) i
 
 -- so a file's name is a text
-pub file_is_text : (file : List ℕ) → IsFile file → IsUtf8 file
+pub file_is_text : (file : List ℕ) → IsFileName file → IsUtf8 file
 file_is_text file is =
     subst IsUtf8 (sym is.is) (IsUtf8-from_ascii (is.first ∷ is.others) (all_low (is.first ∷ is.others) (All-cons IsFileByte is.first is.others (inl is.is_start) is.are_bytes)))
 

@@ -108,14 +108,14 @@ large_next shape term terms p s i j pair pair_t raised (inr h) =
 -- ---- so far
 
 -- p is the product of the first terms, and none of the elements made so far is large: what is left behind p is what is left of all
-pub record LeadsOn (shape : Shape) (p : List Row) (terms left : List Term) : Type 0 where
+pub record IsProductSoFar (shape : Shape) (p : List Row) (terms left : List Term) : Type 0 where
   pub pair : IsPair shape p
   pub product : (s : List Row) → IsProductBehind shape p left s → IsProductOf shape terms s
   pub large : (i j : ℕ) → IsLargeProduct shape terms i j → IsLargeBehind shape p left i j
   pub first_large : (i j : ℕ) → IsLargeBehind shape p left i j → IsLargeProduct shape terms i j
 
 -- the power of the first term
-pub leads_first : (shape : Shape) (term : Term) (terms : List Term) (p : List Row) → IsPair shape term.rows → IsRaised shape term p → LeadsOn shape p (term ∷ terms) terms
+pub leads_first : (shape : Shape) (term : Term) (terms : List Term) (p : List Row) → IsPair shape term.rows → IsRaised shape term p → IsProductSoFar shape p (term ∷ terms) terms
 leads_first shape term terms p pair raised = record {
   pair = raised.power.pair;
   product = λ s h. behind_first shape term terms p s raised.power h;
@@ -124,7 +124,7 @@ leads_first shape term terms p pair raised = record {
 }
 
 -- one more power
-pub leads_next : (shape : Shape) (term : Term) (terms left : List Term) (p s : List Row) → IsPair shape term.rows → LeadsOn shape p terms (term ∷ left) → IsRaisedBehind shape p term s → LeadsOn shape s terms left
+pub leads_next : (shape : Shape) (term : Term) (terms left : List Term) (p s : List Row) → IsPair shape term.rows → IsProductSoFar shape p terms (term ∷ left) → IsRaisedBehind shape p term s → IsProductSoFar shape s terms left
 leads_next shape term terms left p s pair_t h raised = record {
   pair = raised.product.pair;
   product = λ t g. h.product t (behind_next shape term left p raised.q s t h.pair raised.raised.power raised.product g);
@@ -133,15 +133,15 @@ leads_next shape term terms left p s pair_t h raised = record {
 }
 
 -- a large one behind p is the first of all
-pub leads_large : (shape : Shape) (term : Term) (terms left : List Term) (p : List Row) (i j : ℕ) → LeadsOn shape p terms (term ∷ left) → IsLargeNext shape p term i j → IsLargeProduct shape terms i j
+pub leads_large : (shape : Shape) (term : Term) (terms left : List Term) (p : List Row) (i j : ℕ) → IsProductSoFar shape p terms (term ∷ left) → IsLargeNext shape p term i j → IsLargeProduct shape terms i j
 leads_large shape term terms left p i j h (inl large) = h.first_large i j (inl large)
 leads_large shape term terms left p i j h (inr g) = h.first_large i j (inr (g.raised.small, g.q, g.s, g.raised.power, g.product, inl g.large))
 
 -- with no more terms p is the product, and nothing is large
-pub leads_end : (shape : Shape) (terms : List Term) (p : List Row) → LeadsOn shape p terms [] → IsProductOf shape terms p
+pub leads_end : (shape : Shape) (terms : List Term) (p : List Row) → IsProductSoFar shape p terms [] → IsProductOf shape terms p
 leads_end shape terms p h = h.product p (behind_none shape p h.pair)
 
-pub leads_small : (shape : Shape) (terms : List Term) (p : List Row) (i j : ℕ) → LeadsOn shape p terms [] → ¬ IsLargeProduct shape terms i j
+pub leads_small : (shape : Shape) (terms : List Term) (p : List Row) (i j : ℕ) → IsProductSoFar shape p terms [] → ¬ IsLargeProduct shape terms i j
 leads_small shape terms p i j h = h.large i j
 
 -- ---- calls
@@ -161,7 +161,7 @@ item_left xs i x within is = drop_more xs i x within ∙ ap (λ t. t ∷ drop (i
 pub record IsLeft (shape : Shape) (names : List (List ℕ × ElementValue)) (rest : List Factor) (p : List Row) (terms : List Term) : Type 0 where
   pub left : List Term
   pub are : AreTermsOf shape names rest left
-  pub leads : LeadsOn shape p terms left
+  pub leads : IsProductSoFar shape p terms left
 
 -- p is what has been made of the factors when the rest is left
 pub record HasCome (shape : Shape) (names : List (List ℕ × ElementValue)) (factors rest : List Factor) (p : ElementValue) : Type 0 where
@@ -197,7 +197,7 @@ come_first shape names all factors factor p e some made = record {
   shape_is = let first = first_term shape names all factors factor e some in (made shape first.0 first.1).0;
   left = λ terms are.
       let t = parted_at shape names all factors factor terms e are in
-      record { left = t.others; are = t.later; leads = subst (λ (ts : List Term). LeadsOn shape p.rows ts t.others) (sym t.is) (leads_first shape t.term t.others p.rows t.first.pair (made shape t.term t.first).1) };
+      record { left = t.others; are = t.later; leads = subst (λ (ts : List Term). IsProductSoFar shape p.rows ts t.others) (sym t.is) (leads_first shape t.term t.others p.rows t.first.pair (made shape t.term t.first).1) };
 }
 
 -- where that power is large, it is the first large one of the product
@@ -226,7 +226,7 @@ come_next shape names all rest factors factor p q e some come made = record {
       record {
         left = t.others;
         are = t.later;
-        leads = leads_next shape t.term terms t.others p.rows q.rows t.first.pair (subst (λ (ts : List Term). LeadsOn shape p.rows terms ts) t.is left.leads) (subst (λ (s : Shape). IsRaisedBehind s p.rows t.term q.rows) come.shape_is raised);
+        leads = leads_next shape t.term terms t.others p.rows q.rows t.first.pair (subst (λ (ts : List Term). IsProductSoFar shape p.rows terms ts) t.is left.leads) (subst (λ (s : Shape). IsRaisedBehind s p.rows t.term q.rows) come.shape_is raised);
       };
 }
 
@@ -237,16 +237,16 @@ come_large_next shape names all rest factors factor p terms i j e come are large
     let left = come.left terms are in
     let t = parted_at shape names rest factors factor left.left e left.are in
     let next = large t.term (subst (λ (s : Shape). IsTermOf s names factor t.term) (sym come.shape_is) t.first) in
-    leads_large shape t.term terms t.others p.rows i j (subst (λ (ts : List Term). LeadsOn shape p.rows terms ts) t.is left.leads) (subst (λ (s : Shape). IsLargeNext s p.rows t.term i j) come.shape_is next)
+    leads_large shape t.term terms t.others p.rows i j (subst (λ (ts : List Term). IsProductSoFar shape p.rows terms ts) t.is left.leads) (subst (λ (s : Shape). IsLargeNext s p.rows t.term i j) come.shape_is next)
 
 -- with no factors left there are no terms left
-no_terms : (shape : Shape) (names : List (List ℕ × ElementValue)) (rest : List Factor) (p : List Row) (terms left : List Term) → rest ≡ [] → AreTermsOf shape names rest left → LeadsOn shape p terms left → LeadsOn shape p terms []
+no_terms : (shape : Shape) (names : List (List ℕ × ElementValue)) (rest : List Factor) (p : List Row) (terms left : List Term) → rest ≡ [] → AreTermsOf shape names rest left → IsProductSoFar shape p terms left → IsProductSoFar shape p terms []
 no_terms shape names [] p terms [] e are leads = leads
 no_terms shape names [] p terms (term ∷ left) e are leads = absurd are
 no_terms shape names (factor ∷ rest) p terms left e are leads = absurd cc
 
 -- what has been made then is the product, and nothing is large
-pub come_to_end : (shape : Shape) (names : List (List ℕ × ElementValue)) (all rest : List Factor) (p : ElementValue) → rest ≡ [] → HasCome shape names all rest p → (terms : List Term) → AreTermsOf shape names all terms → LeadsOn shape p.rows terms []
+pub come_to_end : (shape : Shape) (names : List (List ℕ × ElementValue)) (all rest : List Factor) (p : ElementValue) → rest ≡ [] → HasCome shape names all rest p → (terms : List Term) → AreTermsOf shape names all terms → IsProductSoFar shape p.rows terms []
 come_to_end shape names all rest p e come terms are = let left = come.left terms are in no_terms shape names rest p.rows terms left.left e left.are left.leads
 
 -- the identity is the product of no terms

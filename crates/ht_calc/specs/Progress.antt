@@ -8,7 +8,7 @@
 --     Origin                              how a run began, by its budget and the counts of the library then; and how far it had come at some time: the number of answers written, and their output
 --     Answered .. lines answering O       O is the output of a run over these lines that led to here, and goes on from that time
 --     Stands extent T O .. reading        so far T was read to this extent, and O is the output
---     GoesOn old new                      one more line was ended, or more of it was begun
+--     IsFurtherOn old new                 one more line was ended, or more of it was begun
 use Rattle.std.specs.Prelude.{◌≡◌, ◌≢◌, ◌↔◌, ◌⊎◌, ℕ, ◌<◌, ◌≤◌, List, [], ◌∷◌, ◌++◌, length, take, All, Any, IsTrue, Option}
 use Rattle.std.specs.List.{flat_map}
 use Rattle.ht_answer.specs.declared.answer.Answer.{Answer}
@@ -72,6 +72,6 @@ pub record Stands (extent : Extent) (T O : List ℕ) (files : Option (List (List
   pub read : IsRead extent T lines reading.begun.items
   pub answered : Answered files before now lines reading.answering O
 
-abbrev pub GoesOn : Reading → Reading → Type 0
-GoesOn old new = (old.answering.lines < new.answering.lines)
+abbrev pub IsFurtherOn : Reading → Reading → Type 0
+IsFurtherOn old new = (old.answering.lines < new.answering.lines)
     ⊎ ((new.answering.lines ≡ old.answering.lines) × (length old.begun.items < length new.begun.items))

@@ -6,7 +6,7 @@ use Rattle.std.specs.Prelude.{◌≤◌, length, ⊤}
 use Rattle.ht_text.specs.Texts.{rows_text}
 use Rattle.ht_script.specs.declared.line.Line.{Line}
 use Rattle.ht_script.specs.declared.line.Line.TheVariants.{Reduce, LetRows, Load}
-use Rattle.ht_script.specs.Names.{IsFile}
+use Rattle.ht_script.specs.Names.{IsFileName}
 
 abbrev pub HasShortRows : Line → Type 0
 HasShortRows (Reduce rows) = length (rows_text rows) ≤ 65536
@@ -14,5 +14,5 @@ HasShortRows (LetRows name rows) = length (rows_text rows) ≤ 65536
 HasShortRows other = ⊤
 
 abbrev pub NamesFile : Line → Type 0
-NamesFile (Load name file) = IsFile file
+NamesFile (Load name file) = IsFileName file
 NamesFile other = ⊤

@@ -14,7 +14,6 @@ ghost use Rattle.ht_calc.specs.Steps.{AreAsked, Does};
 use crate::Session;
 use ht_answer::{Answer, Refusal};
 use ht_ask::{VerdictFault, verdict_of};
-use ht_ops::op_fault;
 use ht_pair::{Element, OpFault, Rows, Verdict, copy_rows};
 use ht_word::{Name, NoMemory, Shape};
 use std::alloc::Global;
@@ -87,11 +86,11 @@ fn element_of(alloc: Global, shape: Shape, rows: &Rows) -> Result<Element, OpFau
     ensures large { (count letters : ℕ) → IsErrOf result (op_fault.Large count letters) → IsLarge shape rows.now (length rows.now) letters }
 {
     let copy = copy_rows(alloc, rows.as_slice())?;
-    match Element::of_rows(alloc, shape, copy) {
+    match Element::of_pair(alloc, shape, copy) {
         Ok(element) => {
             element.keeps_limits();
             Ok(element)
         }
-        Err(fault) => Err(op_fault(fault)),
+        Err(fault) => Err(fault),
     }
 }

@@ -3,7 +3,7 @@ ghost use Rattle.std.specs.Prelude.{◌≡◌, ◌≤◌, ◌<◌, ◌+◌, ◌�
 ghost use Rattle.ht_out.specs.Counts.{count_on, next_count};
 ghost use Rattle.ht_calc.specs.declared.lines.Extent.TheVariants.{Within};
 ghost use Rattle.ht_calc.specs.ScriptLines.{lines_of};
-ghost use Rattle.ht_calc.specs.Progress.{IsOneLine, IsReady, Calls, Origin, Stands, GoesOn};
+ghost use Rattle.ht_calc.specs.Progress.{IsOneLine, IsReady, Calls, Origin, Stands, IsFurtherOn};
 
 use crate::answering::Answering;
 use ht_out::Library;
@@ -70,7 +70,7 @@ impl Reading {
         ensures stands { (T O : List ℕ) (before : Origin)
             → Stands Extent.Within T (O ++ text.old.items) (L.files files.old) before (record { faults = L.faults files.old; asked = L.asked files.old }) self.old
             → IfOk result (λ extent. Stands extent (T ++ bytes.now) (O ++ text.new.items) (L.files files.old) before (record { faults = L.faults files.new; asked = L.asked files.new }) self.new) }
-        ensures ready { IfOk result (λ extent. extent ≡ Extent.Within → IsReady self.new × GoesOn self.old self.new) }
+        ensures ready { IfOk result (λ extent. extent ≡ Extent.Within → IsReady self.new × IsFurtherOn self.old self.new) }
         ensures ended { IfOk result (λ extent. extent ≡ Extent.Ended → bytes.now ≡ []) }
         ensures files { L.files files.new ≡ L.files files.old }
         ensures later { L.faults files.old ≤ L.faults files.new }

@@ -4,7 +4,7 @@ ghost use Rattle.std.specs.Option.{option_map};
 ghost use Rattle.ht_out.specs.Counts.{next_count};
 ghost use Rattle.ht_script.specs.declared.line.Line.TheVariants as line;
 ghost use Rattle.ht_script.specs.Lines.{IsLine};
-ghost use Rattle.ht_script.specs.Names.{IsFile};
+ghost use Rattle.ht_script.specs.Names.{IsFileName};
 ghost use Rattle.ht_answer.specs.Answers.{HasAnswerText};
 ghost use Rattle.ht_calc.specs.Fetches.{Fetched, AreFetches, AreAll};
 ghost use Rattle.ht_calc.specs.Loads.{IsFileRefusal, Loads};
@@ -32,7 +32,7 @@ impl Session {
         file: &Name,
         files: &mut L,
     ) -> Result<Answer, NoMemory>
-        requires { IsFile file.now }
+        requires { IsFileName file.now }
         ensures step { (bytes : List ℕ) → IsLine bytes (line.Load name file.now) → IfOk result (λ answer. (made : List Fetched) × Step self.old bytes made answer self.new
             × AreFetches (L.files files.old) (L.faults files.old) (L.faults files.new) made × AreAll (L.asked files.old) (L.asked files.new) made) }
         ensures text { IfOk result HasAnswerText }
@@ -89,7 +89,7 @@ fn fetch_file<L: Library>(
     file: &Name,
     files: &mut L,
 ) -> Result<Option<Vec<u8>>, NoMemory>
-    requires { IsFile file.now }
+    requires { IsFileName file.now }
     ensures fetched { IfOk result (λ given. AreFetches (L.files files.old) (L.faults files.old) (L.faults files.new)
         (record { file = file.now; gives = option_map (λ bytes. bytes.items) given } ∷ [])) }
     ensures files { L.files files.new ≡ L.files files.old }

@@ -1,11 +1,10 @@
-//! Images under many steps.
+//! Images under many steps, and behind letters.
 ghost use Rattle.std.specs.Prelude.{◌≡◌, IfOk};
 ghost use Rattle.ht_pair.specs.ValueLists.{IsValueList};
 
-use crate::texts::{add_word, element_of};
+use crate::texts::{add_word, element_of, word_in};
 use ht_ops::Image;
-use ht_text::read_word;
-use ht_word::Shape;
+use ht_word::{Shape, Word};
 use std::alloc::Global;
 use std::process::Abort;
 use std::test::Fail;
@@ -14,10 +13,7 @@ use std::test::Fail;
 fn cone_in(rt: &impl Abort, alloc: Global, shape: Shape, text: &str) -> Result<Image, Fail>
     ensures { IfOk result (IsValueList shape) }
 {
-    let word = read_word(alloc, text.as_bytes())?.ok_or("no word")?;
-    if !shape.holds(&word) {
-        panic!(rt; "{text} is a word of another shape")
-    }
+    let word = word_in(rt, alloc, shape, text)?;
     Ok(Image::cone(alloc, word)?)
 }
 
@@ -33,12 +29,26 @@ fn image_text(
     let cone = cone_in(rt, alloc, shape, word)?;
     let image = cone.steps(alloc, &element_of(alloc, shape, rows)?, k)?;
     let mut text = String::new(alloc);
-    for row in image
-        .rows_under(alloc, &ht_word::Word::new(alloc, 1))?
-        .as_slice()
-    {
+    for row in image.rows_under(alloc, &Word::new(alloc, 1))?.as_slice() {
         add_word(alloc, &row.to, &mut text)?;
     }
+    Ok(text)
+}
+
+// What the image of x1 under one step of the element of the rows is behind the letters of the word:
+// the entries as words behind x1 and the words that they lead to, and whether that is the image.
+fn behind_text(rt: &impl Abort, alloc: Global, rows: &str, word: &str) -> Result<String, Fail> {
+    let shape = Shape::new(2, 1)?;
+    let cone = cone_in(rt, alloc, shape, "x1")?;
+    let image = cone.step(alloc, &element_of(alloc, shape, rows)?)?;
+    let word = word_in(rt, alloc, shape, word)?;
+    let behind = image.behind(alloc, shape, word.letters.as_slice())?;
+    let mut text = String::new(alloc);
+    for row in behind.rows_under(alloc, &Word::new(alloc, 1))?.as_slice() {
+        add_word(alloc, &row.from, &mut text)?;
+        add_word(alloc, &row.to, &mut text)?;
+    }
+    text.push_str(if behind.same(&image) { "same" } else { "other" })?;
     Ok(text)
 }
 
@@ -70,5 +80,21 @@ fn images_follow_many_steps(rt: HostRuntime) -> Result<(), Fail> {
     assert_eq!(rt; ahead.as_str(), long_text(alloc, '1', 1_101)?.as_str());
     let behind = image_text(&rt, alloc, SHIFT, "x1.2", -1_100)?;
     assert_eq!(rt; behind.as_str(), long_text(alloc, '2', 1_101)?.as_str());
+    Ok(())
+}
+
+// Behind no letters, behind letters that an entry has, and below and above those of entries.
+#[test]
+fn images_are_told_behind_letters(rt: HostRuntime) -> Result<(), Fail> {
+    for (word, wanted) in [
+        ("x1", "x1.1 x1.21 x1.21 x1.22 x1.22 x1.1 same"),
+        ("x1.1", "x1. x1.21 other"),
+        ("x1.12", "x1. x1.212 other"),
+        ("x1.2", "x1.1 x1.22 x1.2 x1.1 other"),
+        ("x1.2212", "x1. x1.112 other"),
+    ] {
+        let told = behind_text(&rt, rt.alloc(), THIRD, word)?;
+        assert_eq!(rt; told.as_str(), wanted);
+    }
     Ok(())
 }

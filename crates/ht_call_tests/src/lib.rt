@@ -2,9 +2,10 @@
 //! and what they give then.
 //!
 //! - `texts`: the texts that are compared
-//! - `bases`: expansions of bases
+//! - `bases`: expansions of bases, and which words are a basis
 //! - `files`: element files
-//! - `images`: images under many steps
+//! - `images`: images under many steps, and behind letters
+//! - `rows`: places in the rows of an element
 //! - `walks`: walks and exits behind
 #![tactic(auto)]
 
@@ -14,6 +15,8 @@ mod bases;
 mod files;
 #[cfg(test)]
 mod images;
+#[cfg(test)]
+mod rows;
 #[cfg(test)]
 mod texts;
 #[cfg(test)]

@@ -6,7 +6,7 @@ ghost use Rattle.ht_types.specs.Flows.{IsUnderInfinite};
 use crate::texts::element_of;
 use ht_quasi::quasinormal;
 use ht_text::read_word;
-use ht_types::{Direction, Kind, Typed, exit_of, mover, types, walk_of};
+use ht_types::{Direction, Kind, Typed, exit_of, types, walk_of};
 use ht_word::{Shape, Word};
 use std::alloc::Global;
 use std::process::Abort;
@@ -37,9 +37,8 @@ fn infinite_word(rt: &impl Abort, alloc: Global, typed: &Typed, text: &str) -> R
 // of its exit behind.
 fn told_behind(rt: &impl Abort, alloc: Global, typed: &Typed, text: &str) -> Result<String, Fail> {
     let word = infinite_word(rt, alloc, typed, text)?;
-    let back = mover(alloc, typed, Direction::Behind)?;
-    let walk = walk_of(alloc, typed, &back, Direction::Behind, &word)?;
-    let exit = exit_of(alloc, typed, &back, Direction::Behind, &word)?;
+    let walk = walk_of(alloc, typed, Direction::Behind, &word)?;
+    let exit = exit_of(alloc, typed, Direction::Behind, &word)?;
     let rest = walk.rest.as_slice();
     let letters = exit.letters.as_slice();
     Ok(format!(in alloc; "{} {}{rest:?} {letters:?};", walk.steps, walk.to)?)

@@ -25,15 +25,15 @@ use Rattle.ht_types.specs.TypedElements.{TypedValue, IsTyped}
 use Rattle.ht_cycles.specs.Matches.{TellsMatch}
 
 -- a pair whose quasinormal basis has cycle words alone
-record IsPeriodic (shape : Shape) (p : List Row) (X : List Word) : Type 0 where
+record HasCyclesAlone (shape : Shape) (p : List Row) (X : List Word) : Type 0 where
   pair : IsPair shape p
   quasinormal : IsQuasinormal shape p X
   cycles : (x : Word) → Contains X x → IsCycleWord shape p x
 
 -- two such pairs
 pub record ArePeriodic (shape : Shape) (f : List Row) (X : List Word) (g : List Row) (Y : List Word) : Type 0 where
-  first : IsPeriodic shape f X
-  second : IsPeriodic shape g Y
+  first : HasCyclesAlone shape f X
+  second : HasCyclesAlone shape g Y
 
 -- two typed elements of one shape whose words are cycle words
 pub typed_periodic : (f g : TypedValue) → g.element.shape ≡ f.element.shape → IsTyped f.element f.quasi f.kinds → IsTyped g.element g.quasi g.kinds
@@ -41,14 +41,14 @@ pub typed_periodic : (f g : TypedValue) → g.element.shape ≡ f.element.shape 
     → ArePeriodic f.element.shape f.element.rows f.quasi.basis.words g.element.rows g.quasi.basis.words
 typed_periodic f g same first second first_cycles second_cycles = record {
   first = record { pair = first.canonical.pair; quasinormal = first.quasinormal.least; cycles = first_cycles };
-  second = subst (λ (s : Shape). IsPeriodic s g.element.rows g.quasi.basis.words) same (record { pair = second.canonical.pair; quasinormal = second.quasinormal.least; cycles = second_cycles });
+  second = subst (λ (s : Shape). HasCyclesAlone s g.element.rows g.quasi.basis.words) same (record { pair = second.canonical.pair; quasinormal = second.quasinormal.least; cycles = second_cycles });
 }
 
 -- the periodic part is the whole basis
-whole_part : (shape : Shape) (p : List Row) (X : List Word) → IsPeriodic shape p X → IsPeriodicPart shape p X X
+whole_part : (shape : Shape) (p : List Row) (X : List Word) → HasCyclesAlone shape p X → IsPeriodicPart shape p X X
 whole_part shape p X periodic = record { ascending = periodic.quasinormal.ascending; same = λ x. ((λ c. (c, periodic.cycles x c)), (λ h. h.0)) }
 
-part_basis : (shape : Shape) (p : List Row) (X P : List Word) → IsPeriodic shape p X → IsPeriodicPart shape p X P → IsBasis shape P
+part_basis : (shape : Shape) (p : List Row) (X P : List Word) → HasCyclesAlone shape p X → IsPeriodicPart shape p X P → IsBasis shape P
 part_basis shape p X P periodic part = subst (IsBasis shape) (selected_once (IsCycleWord shape p) X X P (whole_part shape p X periodic) part) periodic.quasinormal.semi_normal.basis
 
 -- so rows that match the cycles conjugate

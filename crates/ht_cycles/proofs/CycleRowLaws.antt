@@ -22,8 +22,8 @@ use Rattle.ht_pair.proofs.CarriesLaws.{carries_single, carries_word, carries_ext
 use Rattle.ht_pair.proofs.MovesLaws.{from_words-turned}
 use Rattle.ht_pair.proofs.Sequences.{in_front_or}
 use Rattle.ht_types.proofs.PeriodicLaws.{cycle_around, under_cycle_home}
-use Rattle.ht_cycles.specs.Cycles.{Reaches, Meets, ArePicked, IsWordUnderCycle, AreSeeds, GoesOn, IsOnRound, IsRound, AreRounds}
-use Rattle.ht_cycles.specs.MatchedLengths.{AreOfLengths, IsFollowed, MatchLengths}
+use Rattle.ht_cycles.specs.Cycles.{Reaches, Meets, ArePicked, IsWordUnderCycle, AreSeeds, GoesOn, IsOnMatchedRound, IsMatchedRound, AreRounds}
+use Rattle.ht_cycles.specs.MatchedLengths.{AreOfLengths, IsFollowedByRow, MatchLengths}
 use Rattle.ht_cycles.proofs.PickedLaws.{returns_within}
 use Rattle.ht_cycles.proofs.RepresentativeLaws.{not_twice, reaches_then}
 use Rattle.ht_cycles.proofs.RunLaws.{left_at}
@@ -31,27 +31,27 @@ use Rattle.ht_cycles.proofs.SeedLaws.{carried_on, under_carried, goes_on, under_
 
 -- ---- one round
 
-round_length : (shape : Shape) (f g : List Row) (m : ℕ) (u v : Word) (rows : List Row) → IsRound shape f g m u v rows → length rows ≡ m
+round_length : (shape : Shape) (f g : List Row) (m : ℕ) (u v : Word) (rows : List Row) → IsMatchedRound shape f g m u v rows → length rows ≡ m
 round_length shape f g zero u v rows h = ap (λ (t : List Row). length t) h
 round_length shape f g (suc m) u v rows h = omega (arith, ap (λ (t : List Row). length t) h.2, length-append h.0 (h.1 ∷ []), round_length shape f g m u v h.0 h.3)
 
 -- it has a row for each number of steps below m
-round_at : (shape : Shape) (f g : List Row) (m : ℕ) (u v : Word) (rows : List Row) → IsRound shape f g m u v rows → (j : ℕ) → j < m → (row : Row) × Contains rows row × IsOnRound shape f g u v j row
+round_at : (shape : Shape) (f g : List Row) (m : ℕ) (u v : Word) (rows : List Row) → IsMatchedRound shape f g m u v rows → (j : ℕ) → j < m → (row : Row) × Contains rows row × IsOnMatchedRound shape f g u v j row
 round_at shape f g zero u v rows h j l = absurd (omega arith)
 round_at shape f g (suc m) u v rows h j l = elim (last_or j m l) [
   | inl less ↦ let r = round_at shape f g m u v h.0 h.3 j less in (r.0, subst (λ t. Contains t r.0) (sym h.2) (Contains-append_left h.0 (h.1 ∷ []) r.0 r.1), r.2)
-  | inr same ↦ (h.1, subst (λ t. Contains t h.1) (sym h.2) (Contains-append_right h.0 (h.1 ∷ []) h.1 (Contains-here h.1 [])), subst (λ t. IsOnRound shape f g u v t h.1) (sym same) h.4)
+  | inr same ↦ (h.1, subst (λ t. Contains t h.1) (sym h.2) (Contains-append_right h.0 (h.1 ∷ []) h.1 (Contains-here h.1 [])), subst (λ t. IsOnMatchedRound shape f g u v t h.1) (sym same) h.4)
 ]
   where
     last_or : (j m : ℕ) → j < suc m → (j < m) ⊎ (j ≡ m)
     last_or j m l = grind arith
 
 -- and no other
-round_of : (shape : Shape) (f g : List Row) (m : ℕ) (u v : Word) (rows : List Row) → IsRound shape f g m u v rows → (row : Row) → Contains rows row → (j : ℕ) × (j < m) × IsOnRound shape f g u v j row
+round_of : (shape : Shape) (f g : List Row) (m : ℕ) (u v : Word) (rows : List Row) → IsMatchedRound shape f g m u v rows → (row : Row) → Contains rows row → (j : ℕ) × (j < m) × IsOnMatchedRound shape f g u v j row
 round_of shape f g zero u v rows h row c = absurd (Contains-nil row (subst (λ t. Contains t row) h c))
 round_of shape f g (suc m) u v rows h row c = elim (in_front_or h.0 h.1 row (subst (λ t. Contains t row) h.2 c)) [
   | inl d ↦ let r = round_of shape f g m u v h.0 h.3 row d in (r.0, less r.0 m r.1, r.2)
-  | inr e ↦ (m, less_next m, subst (IsOnRound shape f g u v m) e h.4)
+  | inr e ↦ (m, less_next m, subst (IsOnMatchedRound shape f g u v m) e h.4)
 ]
   where
     less : (j m : ℕ) → j < m → j < suc m
@@ -64,7 +64,7 @@ turned-append : (p q : List Row) → turned (p ++ q) ≡ turned p ++ turned q
 turned-append p q = map-append (λ (row : Row). record { from = row.to; to = row.from }) p q
 
 -- turned round it is the round the other way
-round_turned : (shape : Shape) (f g : List Row) (m : ℕ) (u v : Word) (rows : List Row) → IsRound shape f g m u v rows → IsRound shape g f m v u (turned rows)
+round_turned : (shape : Shape) (f g : List Row) (m : ℕ) (u v : Word) (rows : List Row) → IsMatchedRound shape f g m u v rows → IsMatchedRound shape g f m v u (turned rows)
 round_turned shape f g zero u v rows h = ap turned h
 round_turned shape f g (suc m) u v rows h = (
   turned h.0,
@@ -75,7 +75,7 @@ round_turned shape f g (suc m) u v rows h = (
 )
 
 -- there is one
-some_round : (shape : Shape) (f g : List Row) (m : ℕ) (u v : Word) → GoesOn shape f u → GoesOn shape g v → (rows : List Row) × IsRound shape f g m u v rows
+some_round : (shape : Shape) (f g : List Row) (m : ℕ) (u v : Word) → GoesOn shape f u → GoesOn shape g v → (rows : List Row) × IsMatchedRound shape f g m u v rows
 some_round shape f g zero u v go_u go_v = ([], refl)
 some_round shape f g (suc m) u v go_u go_v =
     let rest = some_round shape f g m u v go_u go_v in
@@ -83,7 +83,7 @@ some_round shape f g (suc m) u v go_u go_v =
     (rest.0 ++ row ∷ [], (rest.0, row, refl, rest.1, record { from = (go_u m).1; to = (go_v m).1 }))
 
 -- its `from` words are apart
-round_free : (shape : Shape) (f g : List Row) → IsPair shape f → (X : List Word) → IsSemiNormal shape f X → (m : ℕ) (u v : Word) → IsWordUnderCycle shape f X u m → (j : ℕ) (rows : List Row) → j ≤ m → IsRound shape f g j u v rows → IsPrefixFree (from_words rows)
+round_free : (shape : Shape) (f g : List Row) → IsPair shape f → (X : List Word) → IsSemiNormal shape f X → (m : ℕ) (u v : Word) → IsWordUnderCycle shape f X u m → (j : ℕ) (rows : List Row) → j ≤ m → IsMatchedRound shape f g j u v rows → IsPrefixFree (from_words rows)
 round_free shape f g pair X semi m u v under zero rows l h = subst (λ (t : List Row). IsPrefixFree (from_words t)) (sym h) (AllPairs-nil AreApart)
 round_free shape f g pair X semi m u v under (suc j) rows l h =
     subst IsPrefixFree (sym (ap from_words h.2 ∙ map-append (λ (row : Row). row.from) h.0 (h.1 ∷ [])))
@@ -111,7 +111,7 @@ round_free shape f g pair X semi m u v under (suc j) rows l h =
 pub next_of_round : (shape : Shape) (f : List Row) → IsPair shape f → (k : ℕ) (from u : Word) → GoesOn shape f from → Carries shape f (pos k) from u → (v : Word) × Carries shape f (pos 1) u v
 next_of_round shape f pair k from u go carries = let next = go (k + 1) in (next.0, carries_rest shape f pair (pos k) (pos 1) (pos (k + 1)) (omega (arith, ints)) from u next.0 carries next.1)
 
-pub round_more : (shape : Shape) (f g : List Row) (k : ℕ) (u v : Word) (before : List Row) (row : Row) → IsRound shape f g k u v before → IsOnRound shape f g u v k row → IsRound shape f g (k + 1) u v (before ++ row ∷ [])
+pub round_more : (shape : Shape) (f g : List Row) (k : ℕ) (u v : Word) (before : List Row) (row : Row) → IsMatchedRound shape f g k u v before → IsOnMatchedRound shape f g u v k row → IsMatchedRound shape f g (k + 1) u v (before ++ row ∷ [])
 round_more shape f g k u v before row h on = rw add-one (before, row, refl, h, on)
 
 -- ---- all rounds
@@ -129,8 +129,8 @@ record IsOfRound (shape : Shape) (f g : List Row) (m : ℕ) (us vs : List Word) 
   second_listed : Contains vs second
   steps : ℕ
   low : steps < m
-  on : IsOnRound shape f g first second steps row
-  round : (j : ℕ) → j < m → (next : Row) × Contains rows next × IsOnRound shape f g first second j next
+  on : IsOnMatchedRound shape f g first second steps row
+  round : (j : ℕ) → j < m → (next : Row) × Contains rows next × IsOnMatchedRound shape f g first second j next
 
 rounds_of : (shape : Shape) (f g : List Row) (m : ℕ) (us vs : List Word) (rows : List Row) → AreRounds shape f g m us vs rows → (row : Row) → Contains rows row → IsOfRound shape f g m us vs rows row
 rounds_of shape f g m [] vs rows h row c = absurd (Contains-nil row (subst (λ t. Contains t row) h c))
@@ -189,7 +189,7 @@ some_rounds shape f g m (u ∷ us) go =
     (first.0 ++ others.0, (first.0, others.0, refl, first.1, others.1))
 
 -- the words at one more place
-pub rounds_more : (shape : Shape) (f g : List Row) (m : ℕ) (us vs : List Word) (place : ℕ) (u v : Word) (first others : List Row) → slice_get us place ≡ Some u → slice_get vs place ≡ Some v → IsRound shape f g m u v first → AreRounds shape f g m (drop (place + 1) us) (drop (place + 1) vs) others
+pub rounds_more : (shape : Shape) (f g : List Row) (m : ℕ) (us vs : List Word) (place : ℕ) (u v : Word) (first others : List Row) → slice_get us place ≡ Some u → slice_get vs place ≡ Some v → IsMatchedRound shape f g m u v first → AreRounds shape f g m (drop (place + 1) us) (drop (place + 1) vs) others
     → AreRounds shape f g m (drop place us) (drop place vs) (first ++ others)
 rounds_more shape f g m us vs place u v first others here there round rest =
     subst₂ (λ A B. AreRounds shape f g m A B (first ++ others)) (sym (left us u here)) (sym (left vs v there)) (first, others, refl, round, rest)
@@ -324,7 +324,7 @@ rounds_side shape f g pair X semi m us vs rows same seeds h P are =
     under w c = let b = at w c in some_at P b.above w (are.all b.above m b.listed refl b.cycle) b.under
 
 -- one step leads from a row to a row
-rounds_follow : (shape : Shape) (f g : List Row) → IsPair shape f → IsPair shape g → (X Y : List Word) (m : ℕ) (us vs : List Word) (rows : List Row) → AreSeeds shape f X m us → AreSeeds shape g Y m vs → AreRounds shape f g m us vs rows → (row : Row) → Contains rows row → IsFollowed shape f g rows row
+rounds_follow : (shape : Shape) (f g : List Row) → IsPair shape f → IsPair shape g → (X Y : List Word) (m : ℕ) (us vs : List Word) (rows : List Row) → AreSeeds shape f X m us → AreSeeds shape g Y m vs → AreRounds shape f g m us vs rows → (row : Row) → Contains rows row → IsFollowedByRow shape f g rows row
 rounds_follow shape f g pair_f pair_g X Y m us vs rows seeds_f seeds_g h row c =
     let of = rounds_of shape f g m us vs rows h row c in
     let step : (p : List Row) → IsPair shape p → (u w y : Word) → Carries shape p (pos of.steps) u w → Carries shape p (pos (suc of.steps)) u y → Carries shape p (pos 1) w y

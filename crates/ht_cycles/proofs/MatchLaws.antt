@@ -29,8 +29,9 @@ use Rattle.ht_quasi.specs.declared.quasi.Quasi.{Quasi}
 use Rattle.ht_types.specs.TypedElements.{TypedValue, IsTyped}
 use Rattle.ht_types.specs.declared.kind.Kind.{Kind}
 use Rattle.ht_types.proofs.KnownParts.{periodic_part}
+use Rattle.ht_types.proofs.TurnLaws.{HasSemiNormal}
 use Rattle.ht_cycles.specs.Cycles.{group, ArePicked, AreSeeds, GoesOn, AreRounds}
-use Rattle.ht_cycles.specs.MatchedLengths.{AreOfLengths, IsFollowed, MatchLengths}
+use Rattle.ht_cycles.specs.MatchedLengths.{AreOfLengths, IsFollowedByRow, MatchLengths}
 use Rattle.ht_cycles.specs.Matches.{HaveOneProfile, IsMatch}
 use Rattle.ht_cycles.proofs.ConjugateProfileLaws.{ascending_free, on_profiles}
 use Rattle.ht_cycles.proofs.CycleRowLaws.{has_cycle_words, match_rounds}
@@ -38,18 +39,13 @@ use Rattle.ht_cycles.proofs.ProfileLaws.{has_some, with_length}
 use Rattle.ht_cycles.proofs.SeedLaws.{picked_seeds, goes_on}
 use Rattle.ht_cycles.proofs.MatchedLengthLaws.{match_more}
 
--- a pair with a semi-normal basis
-pub record IsReady (shape : Shape) (f : List Row) (X : List Word) : Type 0 where
-  pub pair : IsPair shape f
-  pub semi : IsSemiNormal shape f X
-
-pub ready : (element : ElementValue) (quasi : Quasi) (kinds : List Kind) (shape : Shape) → IsTyped element quasi kinds → element.shape ≡ shape → IsReady shape element.rows quasi.basis.words
+pub ready : (element : ElementValue) (quasi : Quasi) (kinds : List Kind) (shape : Shape) → IsTyped element quasi kinds → element.shape ≡ shape → HasSemiNormal shape element.rows quasi.basis.words
 ready element quasi kinds shape typed same = record { pair = subst (λ (s : Shape). IsPair s element.rows) same typed.canonical.canonical.pair; semi = subst (λ (s : Shape). IsSemiNormal s element.rows quasi.basis.words) same typed.quasinormal.least.semi_normal }
 
 -- ---- rows that conjugate
 
 -- rows of which each is followed by one of them conjugate on the words under their `from` words
-follows_commutes : (shape : Shape) (f g rows : List Row) → IsPair shape f → IsPair shape g → IsPrefixFree (from_words rows) → All (IsWordOf shape) (to_words rows) → ((row : Row) → Contains rows row → IsFollowed shape f g rows row)
+follows_commutes : (shape : Shape) (f g rows : List Row) → IsPair shape f → IsPair shape g → IsPrefixFree (from_words rows) → All (IsWordOf shape) (to_words rows) → ((row : Row) → Contains rows row → IsFollowedByRow shape f g rows row)
     → (u u' v v' w : Word) → IsWordOf shape u → Moves f u u' → Moves rows u' v' → Moves rows u v → Moves g v w → w ≡ v'
 follows_commutes shape f g rows pair_f pair_g free words follows u u' v v' w word step second first over =
     let row = first.row in
@@ -182,7 +178,7 @@ pub record IsExpanded (shape : Shape) (f : List Row) (X : List Word) (m most : �
   pub seeds : AreSeeds shape f X m us
   pub size : length us ≡ most
 
-pub is_expanded : (shape of given : Shape) (f : List Row) (X : List Word) → IsReady shape f X → (m d most times : ℕ) (R list held : List Word) → of ≡ shape → given ≡ shape → ArePicked shape f X m R → length R % (shape.n - 1) ≡ d % (shape.n - 1) → most ≡ max (length R) d → times ≡ (most - length R) / (given.n - 1)
+pub is_expanded : (shape of given : Shape) (f : List Row) (X : List Word) → HasSemiNormal shape f X → (m d most times : ℕ) (R list held : List Word) → of ≡ shape → given ≡ shape → ArePicked shape f X m R → length R % (shape.n - 1) ≡ d % (shape.n - 1) → most ≡ max (length R) d → times ≡ (most - length R) / (given.n - 1)
     → length list ≡ length R + times * of.n → ((j : ℕ) → AreSeeds of f X j R → AreSeeds of f X j (drop times list)) → held ≡ list → IsExpanded shape f X m most (take (length held - times) (drop times held))
 is_expanded shape of given f X ready m d most times R list held known same picked alike is count size seeds one =
     let whole : take (length held - times) (drop times held) ≡ drop times list = take_all (length held - times) (drop times held) (omega (arith, length-drop times held)) ∙ ap (drop times) one in
@@ -196,11 +192,11 @@ is_expanded shape of given f X ready m d most times R list held known same picke
     }
 
 -- each power from 0 on carries them to words
-pub all_go_on : (shape : Shape) (f : List Row) (X : List Word) → IsReady shape f X → (m most : ℕ) (us : List Word) → IsExpanded shape f X m most us → (u : Word) → Contains us u → GoesOn shape f u
+pub all_go_on : (shape : Shape) (f : List Row) (X : List Word) → HasSemiNormal shape f X → (m most : ℕ) (us : List Word) → IsExpanded shape f X m most us → (u : Word) → Contains us u → GoesOn shape f u
 all_go_on shape f X ready m most us expanded u c = goes_on shape f ready.pair X ready.semi m u (expanded.seeds.under u c)
 
 -- so their rounds match the cycles of one more length
-pub match_grown : (shape : Shape) (f g : List Row) (X Y : List Word) → IsReady shape f X → IsReady shape g Y → (m most : ℕ) (R S us vs : List Word) (old added new : List Row) → ArePicked shape f X m R → ArePicked shape g Y m S → IsExpanded shape f X m most us → IsExpanded shape g Y m most vs → most ≡ max (length R) (length S)
+pub match_grown : (shape : Shape) (f g : List Row) (X Y : List Word) → HasSemiNormal shape f X → HasSemiNormal shape g Y → (m most : ℕ) (R S us vs : List Word) (old added new : List Row) → ArePicked shape f X m R → ArePicked shape g Y m S → IsExpanded shape f X m most us → IsExpanded shape g Y m most vs → most ≡ max (length R) (length S)
     → MatchLengths shape f X g Y (λ k. k < m) old → new ≡ old ++ added → AreRounds shape f g m us vs added → MatchLengths shape f X g Y (λ k. k < m + 1) new
 match_grown shape f g X Y ready_f ready_g m most R S us vs old added new picked_f picked_g first second is below new_is rounds =
     match_more shape f X g Y ready_f.semi.basis.prefix_free ready_g.semi.basis.prefix_free m old added new below

@@ -8,7 +8,7 @@ use Rattle.ht_word.specs.declared.shape.Shape.{Shape}
 use Rattle.ht_word.specs.declared.word.Word.{Word}
 use Rattle.ht_word.proofs.ListLaws.{Contains-map, contained_in_map, AllPairs-from_map, AllPairs-map, AllPairs-weaker}
 use Rattle.ht_word.proofs.WordLaws.{after_cancel_right, length-after, under_after, under_both, word_after, word_front, word_rest, All-from_contains}
-use Rattle.ht_num.specs.Numbers.{IsLeastPositive}
+use Rattle.ht_num.proofs.NumberLaws.{least_same}
 use Rattle.ht_pair.specs.Actions.{Moves}
 use Rattle.ht_pair.specs.Bases.{AreApart, IsPrefixFree, longest, Covers}
 use Rattle.ht_pair.specs.Kinds.{IsCycle}
@@ -33,10 +33,6 @@ back_above shape g pair W perm k y z c hz carries =
     let r = perm.moves k y c in
     let same : r.0 · z ≡ y · z = carries_single shape g pair (pos k) (y · z) (r.0 · z) (y · z) (carries_extends shape g (pos k) y r.0 z hz r.2) carries in
     subst (Carries shape g (pos k) y) (after_cancel_right r.0 y z same) r.2
-
--- the least number from 1 on with a property is that with another that the same numbers have
-least_of_same : (P Q : ℕ → Type 0) → ((k : ℕ) → P k → Q k) → ((k : ℕ) → Q k → P k) → (m : ℕ) → IsLeastPositive P m → IsLeastPositive Q m
-least_of_same P Q to from m h = record { positive = h.positive; holds = to m h.holds; least = λ k low high q. h.least k low high (from k q) }
 
 -- a word of V and the word of W above the image of a long word under it
 record IsImageOf (shape : Shape) (h : List Row) (V W : List Word) (bound : ℕ) (v y : Word) : Type 0 where
@@ -66,8 +62,8 @@ same_length : (shape : Shape) (f g : List Row) → IsPair shape f → IsPair sha
     → (m : ℕ) → IsCycle shape f v m ↔ IsCycle shape g y m
 same_length shape f g pair_f pair_g V W h bound perm_f perm_g match v y i m =
     let same = same_rounds shape f g pair_f pair_g V W h bound perm_f perm_g match v y i in (
-      least_of_same (λ k. Carries shape f (pos k) v v) (λ k. Carries shape g (pos k) y y) (λ k. (same k).0) (λ k. (same k).1) m,
-      least_of_same (λ k. Carries shape g (pos k) y y) (λ k. Carries shape f (pos k) v v) (λ k. (same k).1) (λ k. (same k).0) m,
+      least_same (λ k. Carries shape f (pos k) v v) (λ k. Carries shape g (pos k) y y) (λ k. (same k).0) (λ k. (same k).1) m,
+      least_same (λ k. Carries shape g (pos k) y y) (λ k. Carries shape f (pos k) v v) (λ k. (same k).1) (λ k. (same k).0) m,
     )
 
 -- a long word and its image are under such two

@@ -12,16 +12,14 @@ use Rattle.ht_pair.specs.Kinds.{IsCycle}
 use Rattle.ht_pair.specs.Pairs.{from_words, to_words}
 use Rattle.ht_pair.specs.declared.row.Row.{Row}
 use Rattle.ht_pair.proofs.BasisLaws.{some_at, apart_under, covers_from, covers_long}
-use Rattle.ht_cycles.specs.MatchedLengths.{AreOfLengths, IsFollowed, MatchLengths}
+use Rattle.ht_cycles.specs.MatchedLengths.{AreOfLengths, IsFollowedByRow, MatchLengths}
 use Rattle.ht_cycles.proofs.RepresentativeLaws.{free_apart}
+use Rattle.ht_quasi.proofs.ExpandedLaws.{under_later}
 
 -- ---- two lists
 
 under_first : (A B : List Word) (u : Word) → IsUnderSome u A → IsUnderSome u (A ++ B)
 under_first A B u s = some_at (A ++ B) s.above u (Contains-append_left A B s.above s.listed) s.under
-
-under_second : (A B : List Word) (u : Word) → IsUnderSome u B → IsUnderSome u (A ++ B)
-under_second A B u s = some_at (A ++ B) s.above u (Contains-append_right A B s.above s.listed) s.under
 
 under_either : (A B : List Word) (u : Word) → IsUnderSome u (A ++ B) → IsUnderSome u A ⊎ IsUnderSome u B
 under_either A B u s = elim (Contains-append_cases A B s.above s.listed) [ inl c ↦ inl (some_at A s.above u c s.under) | inr c ↦ inr (some_at B s.above u c s.under) ]
@@ -38,8 +36,8 @@ covers-append shape V W P Q first second under_P under_Q apart = covers_from sha
     (λ u word l.
     let one = covers_long shape V P first u word (omega arith) in
     let other = covers_long shape W Q second u word (omega arith) in (
-      λ s. elim (under_either V W u s) [ inl h ↦ under_first P Q u (one.0 h) | inr h ↦ under_second P Q u (other.0 h) ],
-      λ s. elim (under_either P Q u s) [ inl h ↦ under_first V W u (one.1 h) | inr h ↦ under_second V W u (other.1 h) ],
+      λ s. elim (under_either V W u s) [ inl h ↦ under_first P Q u (one.0 h) | inr h ↦ under_later P Q u (other.0 h) ],
+      λ s. elim (under_either P Q u s) [ inl h ↦ under_first V W u (one.1 h) | inr h ↦ under_later V W u (other.1 h) ],
     ))
 
 -- ---- words of cycles of some lengths
@@ -78,7 +76,7 @@ of_other_lengths shape f X D G wider only P are = record {
 
 -- ---- rows
 
-followed_in : (shape : Shape) (f g p q : List Row) (row : Row) → ((next : Row) → Contains p next → Contains q next) → IsFollowed shape f g p row → IsFollowed shape f g q row
+followed_in : (shape : Shape) (f g p q : List Row) (row : Row) → ((next : Row) → Contains p next → Contains q next) → IsFollowedByRow shape f g p row → IsFollowedByRow shape f g q row
 followed_in shape f g p q row up h = record { next = h.next; listed = up h.next h.listed; from = h.from; to = h.to }
 
 -- no rows match no cycles
@@ -120,11 +118,11 @@ match-append shape f X g Y free_X free_Y D E G never from_D from_E either p q on
       to = subst (λ W. Covers shape W (one.second ++ other.second)) (sym to_is) (covers-append shape (to_words p) (to_words q) one.second other.second one.to other.to one.to_under other.to_under second.1);
       from_under = λ u c. elim (Contains-append_cases (from_words p) (from_words q) u (subst (λ W. Contains W u) from_is c)) [
         | inl d ↦ under_first one.first other.first u (one.from_under u d)
-        | inr d ↦ under_second one.first other.first u (other.from_under u d)
+        | inr d ↦ under_later one.first other.first u (other.from_under u d)
       ];
       to_under = λ u c. elim (Contains-append_cases (to_words p) (to_words q) u (subst (λ W. Contains W u) to_is c)) [
         | inl d ↦ under_first one.second other.second u (one.to_under u d)
-        | inr d ↦ under_second one.second other.second u (other.to_under u d)
+        | inr d ↦ under_later one.second other.second u (other.to_under u d)
       ];
       follows = λ row c. elim (Contains-append_cases p q row c) [
         | inl d ↦ followed_in shape f g p (p ++ q) row (λ next e. Contains-append_left p q next e) (one.follows row d)

@@ -31,7 +31,7 @@ use Rattle.ht_quasi.proofs.WalkLaws.{mark_here, mark_kept, mark_only}
 use Rattle.ht_types.specs.TypedElements.{IsTyped}
 use Rattle.ht_types.specs.declared.kind.Kind.{Kind}
 use Rattle.ht_types.proofs.PeriodicLaws.{carries_round, cycle_moved, cycle_next}
-use Rattle.ht_cycles.specs.Cycles.{Reaches, IsCyclePlace, LeadsOn, AreCycleMarks, group, IsGrouped, ArePicked, ArePickedBefore}
+use Rattle.ht_cycles.specs.Cycles.{Reaches, IsCyclePlace, LeadsToPlace, AreCycleMarks, group, IsGrouped, ArePicked, ArePickedBefore}
 use Rattle.ht_cycles.proofs.RepresentativeLaws.{reaches_itself}
 
 -- k steps ahead lead where k modulo m do, if m steps lead back
@@ -62,7 +62,7 @@ pub next_is : (shape : Shape) (f : List Row) → IsPair shape f → (X : List Wo
 next_is shape f pair X place x moved next carries = subst (Contains X) (carries_single shape f pair (pos 1) x next.to moved next.carries carries) next.listed
 
 -- so it is found
-pub next_found : (shape : Shape) (f : List Row) → IsPair shape f → (X W : List Word) → IsPrefixFree X → W ≡ X → (place to : ℕ) (x moved : Word) → (next : HasNext shape f X place x) → Carries shape f (pos 1) x moved → IsPlaceAbove W moved to → LeadsOn shape f X place to
+pub next_found : (shape : Shape) (f : List Row) → IsPair shape f → (X W : List Word) → IsPrefixFree X → W ≡ X → (place to : ℕ) (x moved : Word) → (next : HasNext shape f X place x) → Carries shape f (pos 1) x moved → IsPlaceAbove W moved to → LeadsToPlace shape f X place to
 next_found shape f pair X W free are place to x moved next carries found =
     let above : IsPlaceAbove X moved to = subst (λ V. IsPlaceAbove V moved to) are found in
     record {
@@ -106,7 +106,7 @@ marked_place shape f pair X m start old i place marks cycle so_far =
     let one : cycle.word ≡ so_far.from = same_at X X start cycle.word so_far.from refl cycle.here so_far.here in
     record { word = so_far.at; here = so_far.there; cycle = cycle_moved shape f pair (pos i) so_far.from so_far.at m so_far.carries (subst (λ t. IsCycle shape f t m) one cycle.cycle) }
 
-pub one_more_mark : (shape : Shape) (f : List Row) → IsPair shape f → (X : List Word) → IsPrefixFree X → (start : ℕ) (old : List Bool) (i place next : ℕ) (marks : List Bool) → AreMarkedSteps shape f X start old i place marks → LeadsOn shape f X place next
+pub one_more_mark : (shape : Shape) (f : List Row) → IsPair shape f → (X : List Word) → IsPrefixFree X → (start : ℕ) (old : List Bool) (i place next : ℕ) (marks : List Bool) → AreMarkedSteps shape f X start old i place marks → LeadsToPlace shape f X place next
     → AreMarkedSteps shape f X start old (i + 1) next (set marks place true)
 one_more_mark shape f pair X free start old i place next marks so_far leads =
     let inside : place < length marks = omega (arith, so_far.many, slice_get_within X place so_far.at so_far.there) in

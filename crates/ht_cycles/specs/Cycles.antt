@@ -3,7 +3,7 @@
 --     Reaches shape f u v                   some steps from 0 on lead from u to v
 --     Meets shape f u v                     some lead from a word under u to one under v
 --     IsCyclePlace shape f X m place        the word of X at the place is of a cycle of length m
---     LeadsOn shape f X place next          one step leads from the word of X at the place to that at the next
+--     LeadsToPlace shape f X place next     one step leads from the word of X at the place to that at the next
 --     AreCycleMarks shape f X start old new the new marks are the old ones and those of the words that the word at the start reaches
 --     group groups m                        the words of the groups for length m
 --     IsGrouped groups m word new           the word is added to the group of length m
@@ -12,7 +12,7 @@
 --     IsWordUnderCycle shape f X u m        u is a word of the shape under a word of X of a cycle of length m
 --     AreSeeds shape f X m R                words under such words that never meet; each long word under one of length m is reached from one
 --     GoesOn shape f u                      each power from 0 on carries u to a word
---     IsRound shape f g m u v rows          the rows from what i steps of f carry u to, to what i steps of g carry v to, for i below m
+--     IsMatchedRound shape f g m u v rows   the rows from what i steps of f carry u to, to what i steps of g carry v to, for i below m
 --     AreRounds shape f g m us vs rows      one after another, for words at one place
 use Rattle.std.specs.Prelude.{ℕ, zero, suc, pos, ◌≡◌, ◌≢◌, ◌≤◌, ◌<◌, ◌⊎◌, ◌↔◌, Bool, List, [], ◌∷◌, ◌++◌, length, get_or, Contains, AllPairs, Some, slice_get}
 use Rattle.ht_word.specs.declared.word.Word.{Word}
@@ -40,7 +40,7 @@ pub record IsCyclePlace (shape : Shape) (f : List Row) (X : List Word) (m place 
   pub here : slice_get X place ≡ Some word
   pub cycle : IsCycle shape f word m
 
-pub record LeadsOn (shape : Shape) (f : List Row) (X : List Word) (place next : ℕ) : Type 0 where
+pub record LeadsToPlace (shape : Shape) (f : List Row) (X : List Word) (place next : ℕ) : Type 0 where
   pub from : Word
   pub to : Word
   pub here : slice_get X place ≡ Some from
@@ -93,15 +93,15 @@ pub record AreSeeds (shape : Shape) (f : List Row) (X : List Word) (m : ℕ) (R 
 abbrev pub GoesOn : Shape → List Row → Word → Type 0
 GoesOn shape f u = (k : ℕ) → (v : Word) × Carries shape f (pos k) u v
 
-pub record IsOnRound (shape : Shape) (f g : List Row) (u v : Word) (i : ℕ) (row : Row) : Type 0 where
+pub record IsOnMatchedRound (shape : Shape) (f g : List Row) (u v : Word) (i : ℕ) (row : Row) : Type 0 where
   pub from : Carries shape f (pos i) u row.from
   pub to : Carries shape g (pos i) v row.to
 
-abbrev pub IsRound : Shape → List Row → List Row → ℕ → Word → Word → List Row → Type 0
-IsRound shape f g zero u v rows = rows ≡ []
-IsRound shape f g (suc m) u v rows = (before : List Row) × (row : Row) × (rows ≡ before ++ row ∷ []) × IsRound shape f g m u v before × IsOnRound shape f g u v m row
+abbrev pub IsMatchedRound : Shape → List Row → List Row → ℕ → Word → Word → List Row → Type 0
+IsMatchedRound shape f g zero u v rows = rows ≡ []
+IsMatchedRound shape f g (suc m) u v rows = (before : List Row) × (row : Row) × (rows ≡ before ++ row ∷ []) × IsMatchedRound shape f g m u v before × IsOnMatchedRound shape f g u v m row
 
 abbrev pub AreRounds : Shape → List Row → List Row → ℕ → List Word → List Word → List Row → Type 0
 AreRounds shape f g m [] vs rows = rows ≡ []
 AreRounds shape f g m (u ∷ us) [] rows = rows ≡ []
-AreRounds shape f g m (u ∷ us) (v ∷ vs) rows = (first : List Row) × (others : List Row) × (rows ≡ first ++ others) × IsRound shape f g m u v first × AreRounds shape f g m us vs others
+AreRounds shape f g m (u ∷ us) (v ∷ vs) rows = (first : List Row) × (others : List Row) × (rows ≡ first ++ others) × IsMatchedRound shape f g m u v first × AreRounds shape f g m us vs others

@@ -1,7 +1,7 @@
 -- Rows that match the cycles of some lengths, as the program gathers them. X is the quasinormal basis of f, and Y that of g.
 --
 --     AreOfLengths shape f X D P          P lists the words of X of cycles of a length with D, and each once
---     IsFollowed shape f g rows row       one step leads to another of the rows, of f from the row's from word, of g from its to word
+--     IsFollowedByRow shape f g rows row  one step leads to another of the rows, of f from the row's from word, of g from its to word
 --     MatchLengths shape f X g Y D rows   the rows match the cycles of the lengths with D
 use Rattle.std.specs.Prelude.{ℕ, pos, ◌≤◌, ◌+◌, List, length, Contains}
 use Rattle.ht_word.specs.declared.word.Word.{Word}
@@ -18,7 +18,7 @@ pub record AreOfLengths (shape : Shape) (f : List Row) (X : List Word) (D : ℕ 
   pub listed : (x : Word) → Contains P x → Contains X x × (m : ℕ) × D m × IsCycle shape f x m
   pub all : (x : Word) (m : ℕ) → Contains X x → D m → IsCycle shape f x m → Contains P x
 
-pub record IsFollowed (shape : Shape) (f g rows : List Row) (row : Row) : Type 0 where
+pub record IsFollowedByRow (shape : Shape) (f g rows : List Row) (row : Row) : Type 0 where
   pub next : Row
   pub listed : Contains rows next
   pub from : Carries shape f (pos 1) row.from next.from
@@ -34,4 +34,4 @@ pub record MatchLengths (shape : Shape) (f : List Row) (X : List Word) (g : List
   pub to : Covers shape (to_words rows) second
   pub from_under : (u : Word) → Contains (from_words rows) u → IsUnderSome u first
   pub to_under : (v : Word) → Contains (to_words rows) v → IsUnderSome v second
-  pub follows : (row : Row) → Contains rows row → IsFollowed shape f g rows row
+  pub follows : (row : Row) → Contains rows row → IsFollowedByRow shape f g rows row

@@ -4,7 +4,7 @@ ghost use Rattle.ht_word.specs.declared.word.Word.{Word};
 ghost use Rattle.ht_pair.specs.HeldBases.{children};
 ghost use Rattle.ht_pair.specs.Profiles.{IsProfile};
 ghost use Rattle.ht_pair.specs.declared.row.Row.{Row};
-ghost use Rattle.ht_cycles.specs.Cycles.{ArePicked, AreSeeds, GoesOn, IsRound, AreRounds};
+ghost use Rattle.ht_cycles.specs.Cycles.{ArePicked, AreSeeds, GoesOn, IsMatchedRound, AreRounds};
 ghost use Rattle.ht_cycles.specs.MatchedLengths.{MatchLengths};
 ghost use Rattle.ht_cycles.specs.Matches.{HaveOneProfile, IsMatch, TellsMatch};
 
@@ -73,7 +73,7 @@ fn add_round(
     requires shape { g.now.shape ≡ f.now.shape }
     requires from { GoesOn f.now.shape f.now.rows from.now }
     requires to { GoesOn f.now.shape g.now.rows to.now }
-    ensures { OnOk result ((added : List Row) × (rows.new ≡ rows.old ++ added) × IsRound f.now.shape f.now.rows g.now.rows m from.now to.now added) }
+    ensures { OnOk result ((added : List Row) × (rows.new ≡ rows.old ++ added) × IsMatchedRound f.now.shape f.now.rows g.now.rows m from.now to.now added) }
 {
     f.keeps_limits();
     g.keeps_limits();

@@ -2,7 +2,7 @@
 ghost use Rattle.std.specs.Prelude.{◌≡◌, ◌+◌, ◌<◌, ◌∷◌, [], ℕ, pos, length, IfOk, OnOk};
 ghost use Rattle.ht_word.specs.declared.word.Word.{Word};
 ghost use Rattle.ht_pair.specs.Steps.{Carries};
-ghost use Rattle.ht_cycles.specs.Cycles.{group, IsCyclePlace, LeadsOn, AreCycleMarks, IsGrouped, ArePicked, ArePickedBefore};
+ghost use Rattle.ht_cycles.specs.Cycles.{group, IsCyclePlace, LeadsToPlace, AreCycleMarks, IsGrouped, ArePicked, ArePickedBefore};
 
 use ht_pair::Element;
 use ht_types::{Kind, Typed};
@@ -27,7 +27,7 @@ pub(crate) fn carried(alloc: Global, a: &Element, word: &Word) -> Result<Word, N
 // The place of the word to which one step carries the cycle word at a place. Two binary searches.
 fn next_place(alloc: Global, t: &Typed, place: usize) -> Result<usize, NoMemory>
     requires { (m : ℕ) × IsCyclePlace t.now.element.shape t.now.element.rows t.now.quasi.basis.words m place }
-    ensures { IfOk result (LeadsOn t.now.element.shape t.now.element.rows t.now.quasi.basis.words place) }
+    ensures { IfOk result (LeadsToPlace t.now.element.shape t.now.element.rows t.now.quasi.basis.words place) }
 {
     t.keeps_kinds();
     let basis = &t.quasi().basis;

@@ -20,7 +20,8 @@ use Rattle.ht_pair.specs.SemiNormal.{IsSemiNormal}
 use Rattle.ht_pair.specs.Steps.{Carries}
 use Rattle.ht_pair.specs.declared.row.Row.{Row}
 use Rattle.ht_pair.proofs.CarriesLaws.{carries_word, carries_extends, carries_add, carries_back, carries_rest}
-use Rattle.ht_pair.proofs.KindLaws.{repeated, attractor_once}
+use Rattle.ht_pair.specs.Repeats.{repeated}
+use Rattle.ht_pair.proofs.KindLaws.{attractor_once}
 use Rattle.ht_types.proofs.PeriodicLaws.{carried_further}
 use Rattle.ht_types.proofs.TurnLaws.{HasSemiNormal}
 use Rattle.ht_types.proofs.AttractorLaws.{IsAttractorOf, attractor_ahead, repeated_none, repeated_first, IsInPeriods, periods_of, belongs_both, on_round}

@@ -19,11 +19,8 @@ use Rattle.ht_types.specs.declared.walk.Walk.{Walk}
 use Rattle.ht_types.proofs.OnwardLaws.{such_above, sooner_under, early_under, walk_bound}
 use Rattle.ht_types.proofs.StopLaws.{few_steps, few_words}
 use Rattle.ht_types.proofs.TurnLaws.{HasSemiNormal}
+use Rattle.ht_types.proofs.TypedLaws.{typed_base}
 use Rattle.ht_flow.specs.Flowing.{FlowsUnder, IsStuck}
-
--- what the code knows: a pair and its quasinormal basis
-pub typed_base : (t : TypedValue) → IsTyped t.element t.quasi t.kinds → HasSemiNormal t.element.shape t.element.rows t.quasi.basis.words
-typed_base t typed = record { pair = typed.canonical.pair; semi = typed.quasinormal.least.semi_normal }
 
 -- a walk takes few steps
 pub walk_few : (t : TypedValue) → IsTyped t.element t.quasi t.kinds → (u x : Word) (walk : Walk) → length u.letters < 2 ^ 64 → IsUnderInfinite t.element.shape t.element.rows t.quasi.basis.words u → IsWalk t.element.shape t.element.rows t.quasi.basis.words Ahead u x walk → walk.steps < 2 ^ 86

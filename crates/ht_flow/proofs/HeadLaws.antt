@@ -15,7 +15,6 @@ use Rattle.ht_pair.specs.declared.row.Row.{Row}
 use Rattle.ht_pair.proofs.BasisLaws.{basis_single, basis_word}
 use Rattle.ht_pair.proofs.CarriesLaws.{carries_single, carries_word, carries_extends, carries_rest, carries_sum, carries_itself}
 use Rattle.ht_quasi.proofs.StepLaws.{listed_at, same_at}
-use Rattle.ht_pair.specs.Elements.{ElementValue}
 use Rattle.ht_types.specs.WordSteps.{HasStep}
 use Rattle.ht_types.specs.declared.step.Step.{Step}
 use Rattle.ht_types.proofs.CourseLaws.{same_place}
@@ -108,9 +107,8 @@ pub record IsGoingRound (shape : Shape) (p : List Row) (X : List Word) (a : Word
   pub least : IsHead shape p X a count head
 
 -- a step of the element from the word alone
-pub step_top : (a b : ElementValue) → b ≡ a → (X : List Word) (x : Word) (z : List ℕ) → z ≡ [] → (step : Step) → HasStep b.shape b.rows X (x · z) step → HasStep a.shape a.rows X x step
-step_top a b e X x z none step h =
-    subst (λ t. HasStep a.shape a.rows X t step) (ap (λ y. x · y) none ∙ after-nil x) (subst (λ (v : ElementValue). HasStep v.shape v.rows X (x · z) step) e h)
+pub step_top : (shape : Shape) (p : List Row) (X : List Word) (x : Word) (z : List ℕ) → z ≡ [] → (step : Step) → HasStep shape p X (pos 1) (x · z) step → HasStep shape p X (pos 1) x step
+step_top shape p X x z none step h = subst (λ t. HasStep shape p X (pos 1) t step) (ap (λ y. x · y) none ∙ after-nil x) h
 
 -- what stands at a stage is the word there
 pub stage_word : {shape : Shape} {p : List Row} {X : List Word} (a x : Word) (stage : Stage) (s : IsStage shape p X a stage) → slice_get X stage.at ≡ Some x → s.above ≡ x

@@ -45,7 +45,7 @@ pub fn flow(alloc: Global, t: &Typed, word: &Word) -> Result<Flowed, NoMemory>
 {
     t.keeps_kinds();
     let _ = word.letters.len();
-    let way = walk_of(alloc, t, t.element(), Direction::Ahead, word)?;
+    let way = walk_of(alloc, t, Direction::Ahead, word)?;
     match t.kind(way.to) {
         Kind::Attractor { m, by } => address_of(alloc, t, &way, *m, by),
         _ => stuck_at(alloc, t, &way),

@@ -23,6 +23,6 @@ pub fn exit_word(alloc: Global, t: &Typed, word: &Word) -> Result<Letters, NoMem
         steps: _,
         to: _,
         rest: _,
-    } = exit_of(alloc, t, t.element(), Direction::Ahead, word)?;
+    } = exit_of(alloc, t, Direction::Ahead, word)?;
     Ok(letters)
 }

@@ -60,7 +60,7 @@ fn next_stage(alloc: Global, t: &Typed, stage: Stage) -> Result<Stage, NoMemory>
         to: stage.at,
         rest: Letters::new(alloc),
     };
-    let Step::Leads { to, rest } = next_of(alloc, t, t.element(), Direction::Ahead, &top)? else {
+    let Step::Leads { to, rest } = next_of(alloc, t, Direction::Ahead, &top)? else {
         unreachable!()
     };
     Ok(Stage {

@@ -122,7 +122,7 @@ next_infinite shape p pair X semi x y infinite c (inl h) = (c, (λ cycle. infini
 next_infinite shape p pair X semi x y infinite c (inr h) = (c, (λ cycle. infinite.1 (cycle_kept shape p pair X semi (pos 1) h.from h.to y x c infinite.0 h.under_first h.under_second h.carries cycle)))
 
 -- chains lead from x to the words of T, and the other words of X are in R
-record AreFound (shape : Shape) (p : List Row) (X : List Word) (x : Word) (T R : List Word) : Type 0 where
+record AreReached (shape : Shape) (p : List Row) (X : List Word) (x : Word) (T R : List Word) : Type 0 where
   start : Contains T x
   linked : (t : Word) → Contains T t → (j : ℕ) × AreLinked shape p X j x t
   infinite : (t : Word) → Contains T t → IsInfiniteWord shape p X t
@@ -134,7 +134,7 @@ record AreAllFound (shape : Shape) (p : List Row) (X : List Word) (x : Word) (T 
   all : (j : ℕ) (y : Word) → AreLinked shape p X j x y → Contains T y
 
 -- where no other word is next to a word of T, T has all
-closed_found : (shape : Shape) (p : List Row) (X : List Word) (x : Word) (T R : List Word) → AreFound shape p X x T R → ((r : Word) → Contains R r → Contains X r → (t : Word) → Contains T t → ¬ AreNext shape p t r) → AreAllFound shape p X x T
+closed_found : (shape : Shape) (p : List Row) (X : List Word) (x : Word) (T R : List Word) → AreReached shape p X x T R → ((r : Word) → Contains R r → Contains X r → (t : Word) → Contains T t → ¬ AreNext shape p t r) → AreAllFound shape p X x T
 unfolding AreNext
 closed_found shape p X x T R h closed = record { linked = h.linked; all = all }
   where
@@ -145,7 +145,7 @@ closed_found shape p X x T R h closed = record { linked = h.linked; all = all }
         elim (h.others y last.0) [ inl c ↦ c | inr r ↦ absurd (closed y r last.0 t there link) ]
 
 -- a word next to one of T joins T
-one_more_found : (shape : Shape) (p : List Row) → IsPair shape p → (X : List Word) → IsSemiNormal shape p X → (x : Word) (T R M : List Word) → AreFound shape p X x T R → (r t : Word) → Contains X r → Contains T t → AreNext shape p t r → ((u : Word) → Contains R u → u ≢ r → Contains M u) → AreFound shape p X x (r ∷ T) M
+one_more_found : (shape : Shape) (p : List Row) → IsPair shape p → (X : List Word) → IsSemiNormal shape p X → (x : Word) (T R M : List Word) → AreReached shape p X x T R → (r t : Word) → Contains X r → Contains T t → AreNext shape p t r → ((u : Word) → Contains R u → u ≢ r → Contains M u) → AreReached shape p X x (r ∷ T) M
 unfolding AreNext
 one_more_found shape p pair X semi x T R M h r t c at link rest =
     let infinite = next_infinite shape p pair X semi t r (h.infinite t at) c link in
@@ -182,7 +182,7 @@ next_to_some_or_not shape p pair X T r = elim (contains_or_not X r) [
 ]
 
 -- one word after another joins T, as long as one of X is next to it
-all_found : (shape : Shape) (p : List Row) → IsPair shape p → (X : List Word) → IsSemiNormal shape p X → (x : Word) (fuel : ℕ) (T R : List Word) → length R ≤ fuel → AreFound shape p X x T R → (W : List Word) × AreAllFound shape p X x W
+all_found : (shape : Shape) (p : List Row) → IsPair shape p → (X : List Word) → IsSemiNormal shape p X → (x : Word) (fuel : ℕ) (T R : List Word) → length R ≤ fuel → AreReached shape p X x T R → (W : List Word) × AreAllFound shape p X x W
 all_found shape p pair X semi x zero T [] l h = (T, closed_found shape p X x T [] h (λ r c. absurd (Contains-nil r c)))
 all_found shape p pair X semi x zero T (r ∷ R) l h = absurd (omega (arith, l))
 all_found shape p pair X semi x (suc fuel) T R l h = elim (any_or_none (IsNextToSome shape p X T) R (λ r c. next_to_some_or_not shape p pair X T r)) [

@@ -6,7 +6,7 @@ use Rattle.ht_word.specs.declared.shape.Shape.{Shape}
 use Rattle.ht_word.specs.declared.word.Word.{Word}
 use Rattle.ht_word.proofs.WordLaws.{All-from_contains}
 use Rattle.ht_num.specs.Numbers.{IsLeastPositive}
-use Rattle.ht_num.proofs.NumberLaws.{least_multiple_same}
+use Rattle.ht_num.proofs.NumberLaws.{least_multiple_same, least_same}
 use Rattle.ht_pair.specs.Actions.{Alike}
 use Rattle.ht_pair.specs.Addresses.{BelongTogether, IsAddress}
 use Rattle.ht_pair.specs.Atoms.{IsInfiniteWord, AreJoined, AreLinked, IsAtom}
@@ -24,7 +24,6 @@ use Rattle.ht_pair.specs.declared.row.Row.{Row}
 use Rattle.ht_pair.proofs.AlikeLaws.{alike_refl, alike_sym}
 use Rattle.ht_pair.proofs.AlikePowerLaws.{carries_alike}
 use Rattle.ht_pair.proofs.CarriesLaws.{carries_single}
-use Rattle.ht_laws.proofs.LeastNumberLaws.{least_same}
 use Rattle.ht_laws.proofs.PrefixLaws.{moves_carries}
 
 -- two pairs that move words alike

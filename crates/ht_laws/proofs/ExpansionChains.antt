@@ -1,12 +1,12 @@
 -- A basis is reached by expansions from each basis that it is under, in any order.
-use Rattle.std.proofs.Common.{◌≡◌, ℕ, zero, suc, ◌≤◌, ◌+◌, ◌*◌, ◌⊎◌, inl, inr, List, [], ◌∷◌, ◌++◌, length, take, drop, Some, slice_get, refl, sym, ap, ◌∙◌, subst, arith, ◌↔◌, Contains, take-append-drop, drop-cons, add-one}
+use Rattle.std.proofs.Common.{◌≡◌, ℕ, zero, suc, ◌≤◌, ◌+◌, ◌*◌, ◌⊎◌, inl, inr, List, [], ◌∷◌, ◌++◌, length, take, drop, Some, slice_get, refl, sym, ap, ◌∙◌, subst, arith, ◌↔◌, Contains}
 use Rattle.std.specs.Prelude.{◌-◌}
 use Rattle.std.specs.declared.cmp.Ordering.TheVariants.{Less}
 use Rattle.std.proofs.lemmas.Bool.{cases_lt}
 use Rattle.std.proofs.lemmas.List.{length-append}
 use Rattle.std.proofs.lemmas.List.Elements.{All-contains, Contains-append_cases, Contains-append_left, Contains-append_right}
 use Rattle.std.proofs.Math.Nat.{mul-le-mul_right, le_of_mul-le-mul_right}
-use Rattle.std.proofs.lemmas.Option.{same_Some, slice_get_within, get_or_from_slice_get}
+use Rattle.std.proofs.lemmas.Option.{same_Some}
 use Rattle.ht_word.specs.Words.{child, IsUnder, IsUnderSome, word_cmp}
 use Rattle.ht_word.specs.declared.shape.Shape.{Shape}
 use Rattle.ht_word.specs.declared.word.Word.{Word}
@@ -18,7 +18,7 @@ use Rattle.ht_pair.specs.HeldBases.{BasisValue, IsHeldBasis, IsExpandedAt, child
 use Rattle.ht_pair.proofs.BasisLaws.{prefix_free_same, some_at, some_trans, under_roots, basis_word, child_under, child_above}
 use Rattle.ht_pair.proofs.BasisSizes.{length-roots}
 use Rattle.ht_pair.proofs.CountLaws.{no_more, no_fewer_below}
-use Rattle.ht_pair.proofs.HeldBasisLaws.{roots_held, held_expanded_here}
+use Rattle.ht_pair.proofs.HeldBasisLaws.{roots_held, held_expanded_here, parts_at}
 use Rattle.ht_pair.proofs.OrderedBasisLaws.{ordered, ordered_ascending, ordered_basis}
 use Rattle.ht_pair.proofs.Sequences.{length-each}
 use Rattle.ht_laws.specs.Expansions.{IsReachedBy}
@@ -27,12 +27,6 @@ use Rattle.ht_laws.specs.Expansions.{IsReachedBy}
 held : Shape → List Word → BasisValue
 held shape X = record { shape = shape; words = X }
 
--- a list is what is before a place, the word there and what is behind
-around : (X : List Word) (place : ℕ) (x : Word) → slice_get X place ≡ Some x → X ≡ take place X ++ x ∷ drop (place + 1) X
-around X place x here =
-    sym (take-append-drop place X)
-    ∙ ap (λ t. take place X ++ t) (drop-cons X place x (slice_get_within X place x here) ∙ ap (λ t. t ∷ drop (suc place) X) (get_or_from_slice_get X place x x here) ∙ ap (λ k. x ∷ drop k X) (sym (add-one place)))
-
 -- one word gives way to n words
 pub expanded_more : (old new : BasisValue) (place : ℕ) → IsExpandedAt place old new → length new.words ≡ length old.words + (old.shape.n - 1)
 expanded_more old new place e =
@@ -40,7 +34,7 @@ expanded_more old new place e =
     let tail = drop (place + 1) old.words in
     let many : length (children old.shape e.word) ≡ old.shape.n = length-each (child e.word) old.shape.n in
     let after : length new.words ≡ length front + length (children old.shape e.word) + length tail = ap (λ (t : List Word). length t) e.words ∙ length-append (front ++ children old.shape e.word) tail ∙ ap (λ k. k + length tail) (length-append front (children old.shape e.word)) in
-    let before : length old.words ≡ length front + suc (length tail) = ap (λ (t : List Word). length t) (around old.words place e.word e.here) ∙ length-append front (e.word ∷ tail) in
+    let before : length old.words ≡ length front + suc (length tail) = ap (λ (t : List Word). length t) (parts_at old.words place e.word e.here) ∙ length-append front (e.word ∷ tail) in
     omega (arith, many, after, before, old.shape.letters_low)
 
 -- a basis in ascending order stays one
@@ -49,7 +43,7 @@ expanded_held old new place h e = subst (λ (s : Shape). IsHeldBasis s new.words
 
 -- a word of the list is before the place, there or behind it
 parted : (X : List Word) (place : ℕ) (x w : Word) → slice_get X place ≡ Some x → Contains X w → (Contains (take place X) w ⊎ (x ≡ w)) ⊎ Contains (drop (place + 1) X) w
-parted X place x w here c = elim (Contains-append_cases (take place X) (x ∷ drop (place + 1) X) w (subst (λ (t : List Word). Contains t w) (around X place x here) c)) [
+parted X place x w here c = elim (Contains-append_cases (take place X) (x ∷ drop (place + 1) X) w (subst (λ (t : List Word). Contains t w) (parts_at X place x here) c)) [
   | inl l ↦ inl (inl l)
   | inr r ↦ elim (Contains-cons_cases x (drop (place + 1) X) w r) [ inl e ↦ inl (inr e) | inr k ↦ inr k ]
 ]
@@ -92,7 +86,7 @@ any_first shape W X new place w basis under here other e =
 expanded_under : (shape : Shape) (W : List Word) (new : BasisValue) (place : ℕ) → IsExpandedAt place (held shape W) new → IsAllUnder new.words W
 unfolding held
 expanded_under shape W new place e = All-from_contains (λ x. IsUnderSome x W) new.words (λ x c.
-    let from : (w : Word) → Contains (take place W ++ e.word ∷ drop (place + 1) W) w → Contains W w = λ w k. subst (λ (t : List Word). Contains t w) (sym (around W place e.word e.here)) k in
+    let from : (w : Word) → Contains (take place W ++ e.word ∷ drop (place + 1) W) w → Contains W w = λ w k. subst (λ (t : List Word). Contains t w) (sym (parts_at W place e.word e.here)) k in
     elim (Contains-append_cases (take place W ++ children shape e.word) (drop (place + 1) W) x (subst (λ (t : List Word). Contains t x) e.words c)) [
       | inr k ↦ some_at W x x (from x (Contains-append_right (take place W) (e.word ∷ drop (place + 1) W) x (Contains-there e.word (drop (place + 1) W) x k))) (under_refl x)
       | inl near ↦ elim (Contains-append_cases (take place W) (children shape e.word) x near) [

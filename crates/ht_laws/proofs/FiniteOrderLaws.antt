@@ -1,13 +1,11 @@
 -- An element whose infinite part is empty has an order: that of its periodic part.
-use Rattle.std.proofs.Common.{◌≡◌, ℕ, zero, suc, ◌≤◌, ◌*◌, ◌/◌, ◌%◌, inl, inr, List, [], length, sym, ap, subst, arith, ◌↔◌, Contains, pos, ◌+ℤ◌}
+use Rattle.std.proofs.Common.{◌≡◌, ℕ, zero, suc, ◌≤◌, ◌*◌, ◌/◌, ◌%◌, inl, inr, List, [], length, sym, subst, arith, ◌↔◌, Contains, pos, ◌+ℤ◌}
 use Rattle.std.specs.Prelude.{◌-◌}
 use Rattle.std.specs.Int.{◌∣◌}
-use Rattle.std.proofs.lemmas.Bool.{cases_eq, cases_lt}
+use Rattle.std.proofs.lemmas.Bool.{cases_lt}
 use Rattle.std.proofs.lemmas.Int.{ints}
 use Rattle.std.proofs.lemmas.List.Elements.{All-nil}
-use Rattle.std.proofs.lemmas.Nat.{div-add-mod'}
-use Rattle.std.proofs.lemmas.Nat.Gcd.{dvd_of_mod-eq-zero}
-use Rattle.std.proofs.Math.Nat.{mod-lt, div-mul_cancel, dvd-mul_right, dvd-mul_left_of_dvd}
+use Rattle.std.proofs.Math.Nat.{dvd-mul_right, dvd-mul_left_of_dvd}
 use Rattle.std.specs.declared.cmp.Ordering.TheVariants.{Less}
 use Rattle.ht_word.specs.Words.{◌·◌, root_word, word_cmp, IsLetter, IsWordOf}
 use Rattle.ht_word.specs.declared.shape.Shape.{Shape}
@@ -27,25 +25,12 @@ use Rattle.ht_pair.proofs.BasisLaws.{basis_holds, basis_word}
 use Rattle.ht_pair.proofs.CarriesLaws.{carries_single, carries_from_steps, carries_extends, carries_rest}
 use Rattle.ht_pair.proofs.PrefixMapLaws.{long_word, length-long}
 use Rattle.ht_pair.proofs.StepsLaws.{steps_map}
-use Rattle.ht_types.proofs.PeriodicLaws.{IsOnCycle, carries_round, returns_cycle, cycle_around}
+use Rattle.ht_pair.proofs.IdentityLaws.{fixed_word}
+use Rattle.ht_types.proofs.PeriodicLaws.{IsOnCycle, returns_cycle, cycle_around, length_divides, multiple_carries}
 use Rattle.ht_types.proofs.Repeats.{repeats}
-use Rattle.ht_laws.proofs.LeastNumberLaws.{least_same}
-use Rattle.ht_laws.proofs.PrefixLaws.{fixed_word}
+use Rattle.ht_num.proofs.NumberLaws.{least_same}
 
 -- ---- lengths of cycles
-
--- a number of steps that leads back to a cycle word is a multiple of its length
-pub divided : (shape : Shape) (p : List Row) → IsPair shape p → (x : Word) (m k : ℕ) → IsCycle shape p x m → Carries shape p (pos k) x x → m ∣ k
-divided shape p pair x m k cycle carries = elim (cases_eq (k % m) 0) [
-  | inl none ↦ dvd_of_mod-eq-zero m none
-  | inr some ↦
-      let sum : pos (k / m * m) +ℤ pos (k % m) ≡ pos k = ap pos (div-add-mod' k m) in
-      absurd (cycle.least (k % m) (omega (arith, some)) (mod-lt k cycle.positive) (carries_rest shape p pair (pos (k / m * m)) (pos (k % m)) (pos k) sum x x x (carries_round shape p pair m x cycle.holds (k / m)) carries))
-]
-
--- and each multiple of it leads back
-pub cycle_returns : (shape : Shape) (p : List Row) → IsPair shape p → (x : Word) (m k : ℕ) → IsCycle shape p x m → m ∣ k → Carries shape p (pos k) x x
-cycle_returns shape p pair x m k cycle divides = subst (λ i. Carries shape p (pos i) x x) (div-mul_cancel m divides) (carries_round shape p pair m x cycle.holds (k / m))
 
 -- a cycle in a semi-normal basis has no more words than the basis
 short_cycle : (shape : Shape) (p : List Row) → IsPair shape p → (X : List Word) → IsSemiNormal shape p X → (x : Word) (m : ℕ) → Contains X x → IsCycle shape p x m → m ≤ length X
@@ -108,7 +93,7 @@ fixes_over shape p pair X basis k each root low high =
 -- where the infinite part is empty, a multiple of all lengths of cycles is such a power
 multiple_fixes : (shape : Shape) (p : List Row) → IsPair shape p → (X : List Word) → IsBasis shape X → IsInfinitePart shape p X [] → (k : ℕ) → ((x : Word) (m : ℕ) → Contains X x → IsCycle shape p x m → m ∣ k) → FixesRoots shape p k
 multiple_fixes shape p pair X basis none k multiple = fixes_over shape p pair X basis k (λ x c n.
-    Contains-nil x ((none.same x).1 (c, (λ (m, cycle). n (cycle_returns shape p pair x m k cycle (multiple x m c cycle))))))
+    Contains-nil x ((none.same x).1 (c, (λ (m, cycle). n (multiple_carries shape p pair x m k cycle (multiple x m c cycle))))))
 
 -- the infinite part is empty exactly where some power is the identity
 pub finite_where_empty : (shape : Shape) (p : List Row) (X : List Word) → IsPair shape p → IsSemiNormal shape p X → IsInfinitePart shape p X [] ↔ ((k : ℕ) × (1 ≤ k) × FixesRoots shape p k)
@@ -143,4 +128,4 @@ order_where_empty shape p X k pair basis none = (
     to j multiple = multiple_fixes shape p pair X basis none j (λ x m c cycle. multiple m (x, c, cycle))
 
     from : (j : ℕ) → FixesRoots shape p j → IsMultiple j
-    from j fixes m (x, c, cycle) = divided shape p pair x m j cycle (fixed_word shape p j fixes x (basis_word shape X basis x c))
+    from j fixes m (x, c, cycle) = length_divides shape p pair x m j cycle (fixed_word shape p j fixes x (basis_word shape X basis x c))

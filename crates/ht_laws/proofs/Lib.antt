@@ -1,4 +1,3 @@
-pub mod LeastNumberLaws
 pub mod ExpansionChains
 pub mod LeastSizeLaws
 pub mod GroupLaws
@@ -12,7 +11,6 @@ pub mod PeriodicOrderLaws
 pub mod RowClassLaws
 pub mod OrbitLaws
 pub mod TogetherLaws
-pub mod AtomLaws
 pub mod AtomExistence
 pub mod ConjugatorLaws
 pub mod CarriedLaws

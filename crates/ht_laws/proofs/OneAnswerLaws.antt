@@ -39,18 +39,18 @@ abbrev GivesOne : (PowerAnswer → Type 0) → Type 0
 GivesOne F = (x y : PowerAnswer) → F x → F y → SameAnswer x y
 
 -- where P holds A answers, and elsewhere B
-abbrev Chosen : Type 0 → (PowerAnswer → Type 0) → (PowerAnswer → Type 0) → PowerAnswer → Type 0
-Chosen P A B x = (P × A x) ⊎ ((¬ P) × B x)
+abbrev AnswersBy : Type 0 → (PowerAnswer → Type 0) → (PowerAnswer → Type 0) → PowerAnswer → Type 0
+AnswersBy P A B x = (P × A x) ⊎ ((¬ P) × B x)
 
 -- such a choice gives one answer where both sides do
-one_chosen : (P : Type 0) (A B : PowerAnswer → Type 0) → GivesOne A → GivesOne B → GivesOne (Chosen P A B)
+one_chosen : (P : Type 0) (A B : PowerAnswer → Type 0) → GivesOne A → GivesOne B → GivesOne (AnswersBy P A B)
 one_chosen P A B first second x y h g = elim h [
   | inl a ↦ elim g [ inl b ↦ first x y a.1 b.1 | inr b ↦ absurd (b.0 a.0) ]
   | inr a ↦ elim g [ inl b ↦ absurd (a.0 b.0) | inr b ↦ second x y a.1 b.1 ]
 ]
 
 -- with a condition that holds where P does, and answers that are among others
-chosen_moved : (P Q : Type 0) (A B C D : PowerAnswer → Type 0) → P ↔ Q → (x : PowerAnswer) → (A x → C x) → (B x → D x) → Chosen P A B x → Chosen Q C D x
+chosen_moved : (P Q : Type 0) (A B C D : PowerAnswer → Type 0) → P ↔ Q → (x : PowerAnswer) → (A x → C x) → (B x → D x) → AnswersBy P A B x → AnswersBy Q C D x
 chosen_moved P Q A B C D same x first second h = elim h [
   | inl a ↦ inl (same.0 a.0, first a.1)
   | inr b ↦ inr ((λ q. b.0 (same.1 q)), second b.1)
@@ -103,13 +103,13 @@ record CompareEqual (shape : Shape) (a b : List Row) (sign : Sign) (i j : ℕ) :
 -- the trial is large; or A answers where its powers are conjugate, and B where they are not
 abbrev Compared : Shape → List Row → List Row → Sign → ℕ → ℕ → (PowerAnswer → Type 0) → (PowerAnswer → Type 0) → PowerAnswer → Type 0
 Compared shape a b sign i j A B =
-    Chosen (SomeSize (TrialIsLarge shape a b sign i j)) (IsTooLarge (TrialIsLarge shape a b sign i j))
-    (Chosen (CompareEqual shape a b sign i j) A B)
+    AnswersBy (SomeSize (TrialIsLarge shape a b sign i j)) (IsTooLarge (TrialIsLarge shape a b sign i j))
+    (AnswersBy (CompareEqual shape a b sign i j) A B)
 
 -- a trial gives one answer where both sides do
 one_compared : (shape : Shape) (a b : List Row) → IsPair shape a → IsPair shape b → (sign : Sign) (i j : ℕ) (A B : PowerAnswer → Type 0) → GivesOne A → GivesOne B → GivesOne (Compared shape a b sign i j A B)
 one_compared shape a b pair_a pair_b sign i j A B first second =
-    one_chosen (SomeSize (TrialIsLarge shape a b sign i j)) (IsTooLarge (TrialIsLarge shape a b sign i j)) (Chosen (CompareEqual shape a b sign i j) A B)
+    one_chosen (SomeSize (TrialIsLarge shape a b sign i j)) (IsTooLarge (TrialIsLarge shape a b sign i j)) (AnswersBy (CompareEqual shape a b sign i j) A B)
     (one_large (TrialIsLarge shape a b sign i j) (trial_large_once shape a b pair_a pair_b sign i j))
     (one_chosen (CompareEqual shape a b sign i j) A B first second)
 
@@ -222,29 +222,29 @@ part_pairs c parts h =
 
 -- powers of a and b by N times i and by N times j, where no number is wide
 abbrev FoundBy : Sign → ℕ → ℕ → ℕ → PowerAnswer → Type 0
-FoundBy sign i j N = Chosen (IsSomeWide (N ∷ (i * N) ∷ (j * N) ∷ [])) (λ x. x ≡ TooWide) (ArePowers (pos (i * N)) (signed sign (j * N)))
+FoundBy sign i j N = AnswersBy (IsSomeWide (N ∷ (i * N) ∷ (j * N) ∷ [])) (λ x. x ≡ TooWide) (ArePowers (pos (i * N)) (signed sign (j * N)))
 
 -- for N that is the common order
-abbrev Found : Setting → Sign → ℕ → ℕ → PowerAnswer → Type 0
-Found c sign i j x = (N : ℕ) × IsCommonOrder c.shape c.a c.b c.X c.Y N × FoundBy sign i j N x
+abbrev FoundFor : Setting → Sign → ℕ → ℕ → PowerAnswer → Type 0
+FoundFor c sign i j x = (N : ℕ) × IsCommonOrder c.shape c.a c.b c.X c.Y N × FoundBy sign i j N x
 
 -- they are one answer
-found_once : (c : Setting) (sign : Sign) (i j : ℕ) → GivesOne (Found c sign i j)
+found_once : (c : Setting) (sign : Sign) (i j : ℕ) → GivesOne (FoundFor c sign i j)
 found_once c sign i j = one_told ℕ (IsCommonOrder c.shape c.a c.b c.X c.Y) (FoundBy sign i j) (λ N M h g. once_least N M h g)
     (λ N order. one_chosen (IsSomeWide (N ∷ (i * N) ∷ (j * N) ∷ [])) (λ x. x ≡ TooWide) (ArePowers (pos (i * N)) (signed sign (j * N))) (one_answer TooWide) (one_powers (pos (i * N)) (signed sign (j * N))))
 
 -- once the parts are at hand
 abbrev WithParts : Setting → Sign → ℕ → ℕ → (PowerAnswer → Type 0) → BothParts → PowerAnswer → Type 0
 WithParts c sign i j later parts =
-    Chosen (SomeSize (IsFirstLargeOf c.shape (all_parts parts))) (IsTooLarge (IsFirstLargeOf c.shape (all_parts parts)))
-    (Compared c.shape parts.a_infinite parts.b_infinite sign i j (Found c sign i j) later)
+    AnswersBy (SomeSize (IsFirstLargeOf c.shape (all_parts parts))) (IsTooLarge (IsFirstLargeOf c.shape (all_parts parts)))
+    (Compared c.shape parts.a_infinite parts.b_infinite sign i j (FoundFor c sign i j) later)
 
 -- one answer by these parts
 with_parts_once : (c : Setting) (sign : Sign) (i j : ℕ) (later : PowerAnswer → Type 0) → GivesOne later → (parts : BothParts) → Has c parts → GivesOne (WithParts c sign i j later parts)
 with_parts_once c sign i j later once parts has =
-    one_chosen (SomeSize (IsFirstLargeOf c.shape (all_parts parts))) (IsTooLarge (IsFirstLargeOf c.shape (all_parts parts))) (Compared c.shape parts.a_infinite parts.b_infinite sign i j (Found c sign i j) later)
+    one_chosen (SomeSize (IsFirstLargeOf c.shape (all_parts parts))) (IsTooLarge (IsFirstLargeOf c.shape (all_parts parts))) (Compared c.shape parts.a_infinite parts.b_infinite sign i j (FoundFor c sign i j) later)
     (one_large (IsFirstLargeOf c.shape (all_parts parts)) (first_of_once c.shape (all_parts parts) (part_pairs c parts has)))
-    (one_compared c.shape parts.a_infinite parts.b_infinite has.first.on_infinite.pair has.second.on_infinite.pair sign i j (Found c sign i j) later (found_once c sign i j) once)
+    (one_compared c.shape parts.a_infinite parts.b_infinite has.first.on_infinite.pair has.second.on_infinite.pair sign i j (FoundFor c sign i j) later (found_once c sign i j) once)
 
 -- the same by other parts
 sizes_moved : (L K : ℕ → ℕ → Type 0) → ((rows letters : ℕ) → L rows letters → K rows letters) → SomeSize L → SomeSize K
@@ -263,8 +263,8 @@ compared_moved : (shape : Shape) (a b c d : List Row) → AreAlike shape a c →
 compared_moved shape a b c d first second sign i j A B x =
     let to = trial_large_alike shape a b c d first second sign i j in
     let from = trial_large_alike shape c d a b (other_way shape a c first) (other_way shape b d second) sign i j in
-    chosen_moved (SomeSize (TrialIsLarge shape a b sign i j)) (SomeSize (TrialIsLarge shape c d sign i j)) (IsTooLarge (TrialIsLarge shape a b sign i j)) (Chosen (CompareEqual shape a b sign i j) A B)
-    (IsTooLarge (TrialIsLarge shape c d sign i j)) (Chosen (CompareEqual shape c d sign i j) A B)
+    chosen_moved (SomeSize (TrialIsLarge shape a b sign i j)) (SomeSize (TrialIsLarge shape c d sign i j)) (IsTooLarge (TrialIsLarge shape a b sign i j)) (AnswersBy (CompareEqual shape a b sign i j) A B)
+    (IsTooLarge (TrialIsLarge shape c d sign i j)) (AnswersBy (CompareEqual shape c d sign i j) A B)
     (sizes_moved (TrialIsLarge shape a b sign i j) (TrialIsLarge shape c d sign i j) to, sizes_moved (TrialIsLarge shape c d sign i j) (TrialIsLarge shape a b sign i j) from) x
     (large_moved (TrialIsLarge shape a b sign i j) (TrialIsLarge shape c d sign i j) to x)
     (chosen_moved (CompareEqual shape a b sign i j) (CompareEqual shape c d sign i j) A B A B
@@ -278,11 +278,11 @@ with_parts_moved c sign i j later parts others h g x =
     let there = both_parts_once c parts others h g in
     let to = first_of_alike c.shape (all_parts parts) (all_parts others) there.all in
     let from = first_of_alike c.shape (all_parts others) (all_parts parts) (all_other_way c.shape (all_parts parts) (all_parts others) there.all) in
-    chosen_moved (SomeSize L) (SomeSize K) (IsTooLarge L) (Compared c.shape parts.a_infinite parts.b_infinite sign i j (Found c sign i j) later)
-    (IsTooLarge K) (Compared c.shape others.a_infinite others.b_infinite sign i j (Found c sign i j) later)
+    chosen_moved (SomeSize L) (SomeSize K) (IsTooLarge L) (Compared c.shape parts.a_infinite parts.b_infinite sign i j (FoundFor c sign i j) later)
+    (IsTooLarge K) (Compared c.shape others.a_infinite others.b_infinite sign i j (FoundFor c sign i j) later)
     (sizes_moved L K to, sizes_moved K L from) x
     (large_moved L K to x)
-    (compared_moved c.shape parts.a_infinite parts.b_infinite others.a_infinite others.b_infinite there.a_infinite there.b_infinite sign i j (Found c sign i j) later x)
+    (compared_moved c.shape parts.a_infinite parts.b_infinite others.a_infinite others.b_infinite there.a_infinite there.b_infinite sign i j (FoundFor c sign i j) later x)
 
 -- by whichever parts
 abbrev WithSomeParts : Setting → Sign → ℕ → ℕ → (PowerAnswer → Type 0) → PowerAnswer → Type 0
@@ -290,7 +290,7 @@ WithSomeParts c sign i j later x = (parts : BothParts) × Has c parts × WithPar
 
 -- the trial of a sign: wide, or told by parts
 abbrev Tried : Setting → Sign → ℕ → ℕ → (PowerAnswer → Type 0) → PowerAnswer → Type 0
-Tried c sign i j later = Chosen (IsSomeWide (i ∷ j ∷ [])) (λ x. x ≡ TooWide) (WithSomeParts c sign i j later)
+Tried c sign i j later = AnswersBy (IsSomeWide (i ∷ j ∷ [])) (λ x. x ≡ TooWide) (WithSomeParts c sign i j later)
 
 -- each case of the trial is one of these
 trial_cases : (c : Setting) (sign : Sign) (i j : ℕ) (later : PowerAnswer → Type 0) (x : PowerAnswer) → SignTrial c.shape c.a c.b c.X c.Y sign i j later x → Tried c sign i j later x
@@ -408,7 +408,7 @@ ByDivisors c o x = (ds : List ℕ) × AreTried c o ds × FiniteTrials c.shape c.
 
 -- wide orders, or the trials of divisors
 abbrev ByOrders : Setting → Orders → PowerAnswer → Type 0
-ByOrders c o = Chosen (IsSomeWide (o.M ∷ o.N ∷ [])) (λ x. x ≡ TooWide) (ByDivisors c o)
+ByOrders c o = AnswersBy (IsSomeWide (o.M ∷ o.N ∷ [])) (λ x. x ≡ TooWide) (ByDivisors c o)
 
 -- the answer where both orders are finite
 abbrev Finite : Setting → PowerAnswer → Type 0
@@ -426,7 +426,7 @@ BySigns c r = BothSigns c.shape c.a c.b c.X c.Y r.M r.A r.B r.C r.D
 
 -- wide rates, or both signs
 abbrev ByRates : Setting → Rates → PowerAnswer → Type 0
-ByRates c r = Chosen (IsSomeWide (r.M ∷ r.A ∷ r.B ∷ r.C ∷ r.D ∷ [])) (λ x. x ≡ TooWide) (BySigns c r)
+ByRates c r = AnswersBy (IsSomeWide (r.M ∷ r.A ∷ r.B ∷ r.C ∷ r.D ∷ [])) (λ x. x ≡ TooWide) (BySigns c r)
 
 -- no infinite part is empty, and a has a rate from 1 on
 abbrev AreSomeRates : Setting → Rates → Type 0
@@ -451,11 +451,11 @@ SecondFinite c = IsInfinitePart c.shape c.b c.Y []
 
 -- the four cases of these two
 abbrev Cases : Setting → PowerAnswer → Type 0
-Cases c = Chosen (FirstFinite c) (Chosen (SecondFinite c) (Finite c) (λ x. x ≡ NoPowers)) (Chosen (SecondFinite c) (λ x. x ≡ NoPowers) (Infinite c))
+Cases c = AnswersBy (FirstFinite c) (AnswersBy (SecondFinite c) (Finite c) (λ x. x ≡ NoPowers)) (AnswersBy (SecondFinite c) (λ x. x ≡ NoPowers) (Infinite c))
 
 -- they give one answer
 cases_once : (c : Setting) → GivesOne (Cases c)
-cases_once c = one_chosen (FirstFinite c) (Chosen (SecondFinite c) (Finite c) (λ x. x ≡ NoPowers)) (Chosen (SecondFinite c) (λ x. x ≡ NoPowers) (Infinite c))
+cases_once c = one_chosen (FirstFinite c) (AnswersBy (SecondFinite c) (Finite c) (λ x. x ≡ NoPowers)) (AnswersBy (SecondFinite c) (λ x. x ≡ NoPowers) (Infinite c))
     (one_chosen (SecondFinite c) (Finite c) (λ x. x ≡ NoPowers) (finite_gives_one c) (one_answer NoPowers))
     (one_chosen (SecondFinite c) (λ x. x ≡ NoPowers) (Infinite c) (one_answer NoPowers) (infinite_gives_one c))
 
@@ -487,11 +487,11 @@ answer_cases c x (Answers.infinite {M = M} {ahead_a = A} {behind_a = B} {ahead_b
 
 -- once both bases are at hand
 abbrev WithBoth : Shape → List Row → List Row → ℕ → List Word → List Word → PowerAnswer → Type 0
-WithBoth shape a b budget X Y = Chosen (TakesAtMost shape Y budget) (Answers shape a b X Y) (λ x. x ≡ SecondPastBudget)
+WithBoth shape a b budget X Y = AnswersBy (TakesAtMost shape Y budget) (Answers shape a b X Y) (λ x. x ≡ SecondPastBudget)
 
 -- with the basis of a alone
 abbrev WithFirst : Shape → List Row → List Row → ℕ → List Word → PowerAnswer → Type 0
-WithFirst shape a b budget X = Chosen (TakesAtMost shape X budget) (λ x. (Y : List Word) × IsQuasinormal shape b Y × WithBoth shape a b budget X Y x) (λ x. x ≡ FirstPastBudget)
+WithFirst shape a b budget X = AnswersBy (TakesAtMost shape X budget) (λ x. (Y : List Word) × IsQuasinormal shape b Y × WithBoth shape a b budget X Y x) (λ x. x ≡ FirstPastBudget)
 
 -- with whichever basis of a is quasinormal
 abbrev ByBases : Shape → List Row → List Row → ℕ → PowerAnswer → Type 0

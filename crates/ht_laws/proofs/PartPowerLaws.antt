@@ -29,9 +29,8 @@ use Rattle.ht_pair.proofs.PrefixMapLaws.{long_word, length-long, moved_long}
 use Rattle.ht_pair.proofs.ProductLaws.{inverse_is}
 use Rattle.ht_pair.proofs.StepsLaws.{steps_map}
 use Rattle.ht_ops.proofs.AlikeProducts.{power_alike}
-use Rattle.ht_types.proofs.PeriodicLaws.{periodic_word_either}
+use Rattle.ht_types.proofs.PeriodicLaws.{periodic_word_either, multiple_carries}
 use Rattle.ht_types.proofs.TurnLaws.{HasSemiNormal}
-use Rattle.ht_laws.proofs.FiniteOrderLaws.{cycle_returns}
 use Rattle.ht_laws.proofs.KeptPartLaws.{long_infinite_part_kept, under_a_part}
 use Rattle.ht_laws.proofs.PartEndLaws.{quotient_positive}
 use Rattle.ht_laws.proofs.PrefixLaws.{identity_carries, fixing_is_identity}
@@ -71,7 +70,7 @@ parts_agree {shape} {p} {X} h s t parts k divides u w v word long there other = 
         let z = under.under.rest in
         let hz = word_rest shape x z (subst (IsWordOf shape) under.under.is word) in
         let cycle = (parts.is_periodic.same x).0 under.listed in
-        let round = cycle_returns shape p h.pair x cycle.1.0 k cycle.1.1 (divides x cycle.1.0 cycle.0 cycle.1.1) in
+        let round = multiple_carries shape p h.pair x cycle.1.0 k cycle.1.1 (divides x cycle.1.0 cycle.0 cycle.1.1) in
         let home : Carries shape p (pos k) u u = subst (λ y. Carries shape p (pos k) y y) (sym under.under.is) (carries_extends shape p (pos k) x x z hz round) in
         carries_single shape p h.pair (pos k) u u w home (carries_from_steps shape p h.pair (pos k) u w word there)
 

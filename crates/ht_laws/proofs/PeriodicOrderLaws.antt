@@ -8,7 +8,7 @@ use Rattle.ht_word.specs.declared.word.Word.{Word}
 use Rattle.ht_word.proofs.Deciding.{contains_or_not}
 use Rattle.ht_word.proofs.ListLaws.{Contains-nil, Contains-here, Contains-there, Contains-cons_cases}
 use Rattle.ht_word.proofs.WordLaws.{after-append, after_cancel_right, under_after, word_after, ones, ones_letters}
-use Rattle.ht_num.proofs.NumberLaws.{once_least, least_multiple_none, least_multiple_same, lcm_joins, lcm_exists}
+use Rattle.ht_num.proofs.NumberLaws.{once_least, least_multiple_none, least_multiple_same, lcm_joins, lcm_exists, least_same}
 use Rattle.ht_pair.specs.Actions.{Moves}
 use Rattle.ht_pair.specs.Kinds.{IsCycle, IsCycleWord}
 use Rattle.ht_pair.specs.Orders.{FixesRoots, IsOrder, IsPeriodicOrder}
@@ -21,10 +21,10 @@ use Rattle.ht_pair.proofs.BasisLaws.{some_at, basis_word}
 use Rattle.ht_pair.proofs.CarriesLaws.{carries_single, carries_extends, carries_sum, carries_rest, carries_none}
 use Rattle.ht_pair.proofs.MovesLaws.{moves_map, moves_extends}
 use Rattle.ht_pair.proofs.PrefixMapLaws.{long_word, moved_long}
-use Rattle.ht_types.proofs.PeriodicLaws.{carries_round, cycle_around}
-use Rattle.ht_laws.proofs.FiniteOrderLaws.{divided, cycle_returns, fixes_over}
-use Rattle.ht_laws.proofs.LeastNumberLaws.{least_same}
-use Rattle.ht_laws.proofs.PrefixLaws.{moves_carries, fixed_word}
+use Rattle.ht_pair.proofs.IdentityLaws.{fixed_word}
+use Rattle.ht_types.proofs.PeriodicLaws.{carries_round, cycle_around, length_divides, multiple_carries}
+use Rattle.ht_laws.proofs.FiniteOrderLaws.{fixes_over}
+use Rattle.ht_laws.proofs.PrefixLaws.{moves_carries}
 
 -- one step of the periodic part leads from a cycle word where the element leads
 part_step : (shape : Shape) (p : List Row) (X : List Word) (s t : List Row) → IsPair shape p → (h : HasParts shape p X s t) → (x y : Word) → Contains h.periodic x → Carries shape p (pos 1) x y → Carries shape s (pos 1) x y
@@ -80,7 +80,7 @@ periodic_part_order shape p X s t k pair semi h = (
     to j multiple = fixes_over shape s h.on_periodic.pair X semi.basis j (λ x c n. n (elim (contains_or_not h.periodic x) [
       | inl periodic ↦ (
           let cycle = ((h.is_periodic.same x).0 periodic).1 in
-          part_steps shape p X s t pair semi h x cycle.0 c cycle.1 j x (cycle_returns shape p pair x cycle.0 j cycle.1 (multiple cycle.0 (x, c, cycle.1))))
+          part_steps shape p X s t pair semi h x cycle.0 c cycle.1 j x (multiple_carries shape p pair x cycle.0 j cycle.1 (multiple cycle.0 (x, c, cycle.1))))
       | inr other ↦ (
           let infinite = (h.is_infinite.same x).1 (c, (λ cycle. other ((h.is_periodic.same x).1 (c, cycle)))) in
           subst (λ i. Carries shape s (pos i) x x) (times_one j) (carries_round shape s h.on_periodic.pair 1 x (part_fixes shape p X s t semi h x c infinite) j))
@@ -94,7 +94,7 @@ periodic_part_order shape p X s t k pair semi h = (
         let on = cycle_around shape p pair X semi (pos j) x m c cycle in
         let by_part = part_steps shape p X s t pair semi h x m c cycle j on.word on.carries in
         let same : on.word ≡ x = carries_single shape s h.on_periodic.pair (pos j) x on.word x by_part (fixed_word shape s j fixes x (basis_word shape X semi.basis x c)) in
-        divided shape p pair x m j cycle (subst (Carries shape p (pos j) x) same on.carries)
+        length_divides shape p pair x m j cycle (subst (Carries shape p (pos j) x) same on.carries)
 
 -- ---- there is a periodic order
 

@@ -12,7 +12,7 @@ use Rattle.ht_pair.specs.Steps.{Carries}
 use Rattle.ht_pair.specs.declared.row.Row.{Row}
 use Rattle.ht_pair.proofs.AlikeLaws.{alike_sym}
 use Rattle.ht_pair.proofs.AlikePowerLaws.{carries_alike}
-use Rattle.ht_pair.proofs.CarriesLaws.{carries_from_steps, carries_extends, carries_itself}
+use Rattle.ht_pair.proofs.CarriesLaws.{carries_from_steps, carries_itself}
 use Rattle.ht_pair.proofs.IdentityLaws.{identity_pair, identity_moves}
 use Rattle.ht_pair.proofs.PowerLaws.{identity_power}
 use Rattle.ht_laws.proofs.GroupLaws.{power_carries}
@@ -26,10 +26,6 @@ pub identity_carries : (shape : Shape) (p s : List Row) (k : ℤ) → IsPair sha
 identity_carries shape p s k pair power alike u word =
     let stays : Carries shape (identity shape) (pos 1) u u = (power_carries shape p (identity shape) (pos 0) u u pair (identity_power shape p)).0 (carries_itself shape p u word) in
     (power_carries shape p s k u u pair power).1 (carries_alike shape (identity shape) s (identity_pair shape) power.pair (alike_sym shape s (identity shape) alike) (pos 1) u u stays)
-
--- so does one that fixes the roots
-pub fixed_word : (shape : Shape) (p : List Row) (k : ℕ) → FixesRoots shape p k → (u : Word) → IsWordOf shape u → Carries shape p (pos k) u u
-fixed_word shape p k fixes u h = carries_extends shape p (pos k) (root_word u.root) (root_word u.root) u.letters h.letters (fixes u.root h.root_low h.root_high)
 
 -- a power that fixes the roots is alike to the identity, and the other way round
 pub fixing_is_identity : (shape : Shape) (p s : List Row) (k : ℕ) → IsPair shape p → IsPower shape p (pos k) s → FixesRoots shape p k ↔ Alike shape s (identity shape)

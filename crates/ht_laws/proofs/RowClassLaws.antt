@@ -15,14 +15,11 @@ use Rattle.ht_pair.proofs.BasisLaws.{some_at, basis_word, prefix_free_same}
 use Rattle.ht_pair.proofs.CarriesLaws.{carries_single, carries_extends, carries_back}
 use Rattle.ht_quasi.specs.declared.quasi.Class.TheVariants.{Splits, Joined, Plain}
 use Rattle.ht_quasi.specs.Quasis.{IsYOf, HasClass}
+use Rattle.ht_types.proofs.JoinedLaws.{row_carries}
 
 -- a word of the basis that is under a word under the basis is that word
 between : (X : List Word) (x w : Word) → IsPrefixFree X → Contains X x → IsUnder x w → IsUnderSome w X → w ≡ x
 between X x w free c h s = under_antisym (subst (IsUnder w) (sym (prefix_free_same X free x s.above c s.listed (under_trans h s.under))) s.under) h
-
--- a row carries
-row_carries : (shape : Shape) (p : List Row) (X : List Word) (y : List Row) → IsYOf shape p X y → (row : Row) → Contains y row → Carries shape p (pos 1) row.from row.to
-row_carries shape p X y h row c = All-contains (λ (t : Row). Carries shape p (pos 1) t.from t.to) y row h.to c
 
 -- the `from` words are the words of the basis that are carried under it
 ahead_listed : (shape : Shape) (p : List Row) (X : List Word) (y : List Row) (x : Word) → IsBasis shape X → IsYOf shape p X y → Contains X x → CarriesUnder shape p (pos 1) x X ↔ Contains (from_words y) x

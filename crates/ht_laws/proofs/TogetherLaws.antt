@@ -11,7 +11,8 @@ use Rattle.ht_pair.specs.Pairs.{IsPair}
 use Rattle.ht_pair.specs.Steps.{Carries}
 use Rattle.ht_pair.specs.declared.row.Row.{Row}
 use Rattle.ht_pair.proofs.CarriesLaws.{carries_single, carries_word, carries_extends, carries_add, carries_back, carries_itself}
-use Rattle.ht_pair.proofs.KindLaws.{repeated, length-repeated, carries_times, lengthened_there}
+use Rattle.ht_pair.specs.Repeats.{repeated}
+use Rattle.ht_pair.proofs.KindLaws.{length-repeated, carries_times, lengthened_there}
 
 -- a word belongs together with itself
 pub together_refl : (shape : Shape) (p : List Row) (x : Word) → IsWordOf shape x → BelongTogether shape p x x

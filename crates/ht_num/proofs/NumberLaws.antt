@@ -130,3 +130,7 @@ gcd_exists (suc most) a b small = elim (cases_eq b 0) [
 -- and a least common multiple
 pub lcm_exists : (a b : ℕ) → 1 ≤ a → 1 ≤ b → (k : ℕ) × IsLcm a b k
 lcm_exists a b one two = let g = gcd_exists b a b (le_refl b) in (a / g.0 * b, lcm_from_gcd a b g.0 one two g.1)
+
+-- the least number with one property is the least with another one that the same numbers have
+pub least_same : (P Q : ℕ → Type 0) → ((k : ℕ) → P k → Q k) → ((k : ℕ) → Q k → P k) → (m : ℕ) → IsLeastPositive P m → IsLeastPositive Q m
+least_same P Q to from m h = record { positive = h.positive; holds = to m h.holds; least = λ k low less held. h.least k low less (from k held) }

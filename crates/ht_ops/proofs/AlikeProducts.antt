@@ -1,5 +1,5 @@
 -- Pairs that move words as a power or a product does.
-use Rattle.std.proofs.Common.{◌≡◌, ◌≤◌, ℕ, List, length, sym, subst, ◌∙◌, arith, ℤ}
+use Rattle.std.proofs.Common.{◌≡◌, ◌≤◌, ℕ, List, length, sym, subst, ◌∙◌, arith, ℤ, Result, Ok, Err, IfOk, OnOk}
 use Rattle.ht_word.specs.Words.{◌·◌}
 use Rattle.ht_word.specs.declared.shape.Shape.{Shape}
 use Rattle.ht_word.proofs.WordLaws.{after_cancel_right, ones}
@@ -51,10 +51,17 @@ product_canonical shape given_shape p q rows s shapes pair_p pair_q product h =
     (h.0 ∙ shapes, product_alike shape p q rows s.rows pair_p pair_q product c.pair c.alike)
 
 -- no pair that is the product is large where that canonical pair is within the limits
-pub product_not_large : (shape given_shape : Shape) (p q rows : List Row) (e : ElementValue) → given_shape ≡ shape → IsPair shape p → IsPair shape q → IsProduct shape p q rows
+product_not_large : (shape given_shape : Shape) (p q rows : List Row) (e : ElementValue) → given_shape ≡ shape → IsPair shape p → IsPair shape q → IsProduct shape p q rows
     → (e.shape ≡ given_shape) × IsCanonicalFor given_shape e.rows rows → (length e.rows ≤ 8192) × (longest_of e.rows ≤ 1024)
     → (s : List Row) (i j : ℕ) → IsProduct shape p q s → ¬ IsLarge shape s i j
 product_not_large shape given_shape p q rows e shapes pair_p pair_q product h small s i j other =
     let c = subst (λ (t : Shape). IsCanonicalFor t e.rows rows) shapes h.1 in
     let own = product_canonical shape given_shape p q rows e shapes pair_p pair_q product h in
     alike_not_large shape e.rows s i j (record { canonical = c.form; few_rows = small.0; short_words = small.1 }) other.pair (product_once shape p q s e.rows pair_p pair_q other own.1)
+
+-- of what is made of the product's rows
+pub made_not_large : {E : Type 0} (shape given_shape : Shape) (p q rows : List Row) (made : Result ElementValue E) → given_shape ≡ shape → IsPair shape p → IsPair shape q → IsProduct shape p q rows
+    → IfOk made (λ e. (e.shape ≡ given_shape) × IsCanonicalFor given_shape e.rows rows) → IfOk made (λ e. (length e.rows ≤ 8192) × (longest_of e.rows ≤ 1024))
+    → OnOk made ((s : List Row) (i j : ℕ) → IsProduct shape p q s → ¬ IsLarge shape s i j)
+made_not_large shape given_shape p q rows (Ok e) shapes pair_p pair_q product h small = product_not_large shape given_shape p q rows e shapes pair_p pair_q product h small
+made_not_large shape given_shape p q rows (Err f) shapes pair_p pair_q product h small = tt

@@ -22,7 +22,8 @@ use Rattle.ht_pair.proofs.PrefixMapLaws.{Then, then_map, IsPrefixMap, RowsOf, le
 use Rattle.ht_pair.proofs.ProductLaws.{product_of}
 use Rattle.ht_pair.proofs.RowSearch.{letters_behind}
 use Rattle.ht_ops.proofs.RunLaws.{read_same}
-use Rattle.ht_ops.specs.Blocks.{IsPartOf, IsBlock, HasBlock, AreBlocks, IsFullProduct, IsRun, moved_by, carried_by}
+use Rattle.ht_ops.specs.Blocks.IsGiven.{whole, by_run}
+use Rattle.ht_ops.specs.Blocks.{IsPartOf, IsBlock, IsGiven, HasGiven, AreBlocks, IsFullProduct, IsRun, moved_by, carried_by}
 
 -- the cone of the first row's `from` word is before that of the second's
 abbrev IsRowBefore : Row → Row → Type 0
@@ -73,11 +74,11 @@ run_part shape q row other listed word under =
     }
 
 -- the rows of a run are rows
-run_listed : (q : List Row) (w : Word) (run : List Row) (r : IsRun q w run) (x : Row) → Contains run x → Contains q x
+pub run_listed : (q : List Row) (w : Word) (run : List Row) (r : IsRun q w run) (x : Row) → Contains run x → Contains q x
 run_listed q w run r x c = subst (λ (t : List Row). Contains t x) (sym r.are) (Contains-append_right r.before (run ++ r.behind) x (Contains-append_left run r.behind x c))
 
 -- the rows of a run are carried over in order
-run_before : (q : List Row) (row : Row) (run : List Row) → AllPairs IsBefore (from_words q) → IsRun q row.to run → AllPairs IsBefore (from_words (map (carried_by row) run))
+pub run_before : (q : List Row) (row : Row) (run : List Row) → AllPairs IsBefore (from_words q) → IsRun q row.to run → AllPairs IsBefore (from_words (map (carried_by row) run))
 run_before q row run before r =
     let here : AllPairs IsRowBefore run = AllPairs-left IsRowBefore run r.behind (AllPairs-right IsRowBefore r.before (run ++ r.behind) (subst (AllPairs IsRowBefore) r.are (AllPairs-from_map (λ (t : Row). t.from) IsBefore q before))) in
     AllPairs-map (λ (t : Row). t.from) IsBefore (map (carried_by row) run)
@@ -112,22 +113,26 @@ run_block shape q row run basis ascending r none = record {
     before : AllPairs IsBefore (from_words (map (carried_by row) run))
     before = run_before q row run (all_before (from_words q) basis.prefix_free ascending) r
 
--- the block of one row is added
-pub moved_added : (shape : Shape) (q : List Row) (row other x : Row) (place : ℕ) (old new : List Row) → other ≡ get_or q place other
-    → ((r : Row) × (slice_get q place ≡ Some r) × IsUnder row.to r.from) → x ≡ moved_by row other → new ≡ old ++ x ∷ [] → HasBlock shape q row old new
-moved_added shape q row other x place old new is found x_is new_is =
+-- the rows that the row gives are its block
+given_block : (shape : Shape) (q : List Row) (row : Row) (block : List Row) → IsBasis shape (from_words q) → IsAscending (from_words q) → IsGiven q row block → IsBlock shape q row block
+given_block shape q row block basis ascending (whole other listed under is) = subst (IsBlock shape q row) (sym is) (moved_block shape q row other listed under)
+given_block shape q row block basis ascending (by_run run r none is) = subst (IsBlock shape q row) (sym is) (run_block shape q row run basis ascending r none)
+
+-- one row is added
+pub moved_added : (q : List Row) (row other x : Row) (place : ℕ) (old new : List Row) → other ≡ get_or q place other
+    → ((r : Row) × (slice_get q place ≡ Some r) × IsUnder row.to r.from) → x ≡ moved_by row other → new ≡ old ++ x ∷ [] → HasGiven q row old new
+moved_added q row other x place old new is found x_is new_is =
     let inside = slice_get_within q place found.0 found.1 in
     let one : found.0 ≡ other = read_same q place other found.0 inside is found.1 in
     record {
       block = moved_by row other ∷ [];
-      is_block = moved_block shape q row other (place, inside, sym is) (subst (λ (t : Row). IsUnder row.to t.from) one found.2);
+      given = whole other (place, inside, sym is) (subst (λ (t : Row). IsUnder row.to t.from) one found.2) refl;
       added = new_is ∙ ap (λ (t : Row). old ++ t ∷ []) x_is;
     }
 
--- the block of a run is added
-pub run_added : (shape : Shape) (q : List Row) (row : Row) (run old new : List Row) → IsBasis shape (from_words q) → IsAscending (from_words q) → IsRun q row.to run → ((v : Word) → ¬ Moves q row.to v)
-    → new ≡ old ++ map (carried_by row) run → HasBlock shape q row old new
-run_added shape q row run old new basis ascending r none is = record { block = map (carried_by row) run; is_block = run_block shape q row run basis ascending r none; added = is }
+-- a row for each of a run is added
+pub run_added : (q : List Row) (row : Row) (run old new : List Row) → IsRun q row.to run → ((v : Word) → ¬ Moves q row.to v) → new ≡ old ++ map (carried_by row) run → HasGiven q row old new
+run_added q row run old new r none is = record { block = map (carried_by row) run; given = by_run run r none refl; added = is }
 
 -- ---- all blocks
 
@@ -194,11 +199,12 @@ no_blocks shape p q rows none = record {
 }
 
 -- the next row's block comes behind the others
-pub one_more_block : (shape : Shape) (p q rows rest new : List Row) (row : Row) → IsTable shape p → AreBlocksUpTo shape p q rows (row ∷ rest) → HasBlock shape q row rows new → AreBlocksUpTo shape p q new rest
-one_more_block shape p q rows rest new row table h step = record {
+pub one_more_block : (shape : Shape) (p q rows rest new : List Row) (row : Row) → IsTable shape p → IsBasis shape (from_words q) → IsAscending (from_words q) → AreBlocksUpTo shape p q rows (row ∷ rest) → HasGiven q row rows new
+    → AreBlocksUpTo shape p q new rest
+one_more_block shape p q rows rest new row table basis ascending h step = record {
   done = h.done ++ row ∷ [];
   are = h.are ∙ sym (append_assoc h.done (row ∷ []) rest);
-  blocks = subst (AreBlocks shape q (h.done ++ row ∷ [])) (sym step.added) (block_added shape q h.done rows step.block row before h.blocks step.is_block);
+  blocks = subst (AreBlocks shape q (h.done ++ row ∷ [])) (sym step.added) (block_added shape q h.done rows step.block row before h.blocks (given_block shape q row step.block basis ascending step.given));
 }
   where
     before : (x : Row) → Contains h.done x → IsRowBefore x row

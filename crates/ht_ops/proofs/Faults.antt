@@ -1,41 +1,21 @@
 -- A pair has few faults.
-use Rattle.std.proofs.Common.{◌≡◌, ◌≤◌, inl, inr, ℕ, List, ◌∷◌, length, refl, sym, subst, arith, Contains}
-use Rattle.std.proofs.lemmas.List.Elements.{All-contains, Contains-append_right}
+use Rattle.std.proofs.Common.{◌≡◌, ◌≤◌, inl, inr, ℕ, List, ◌∷◌, length, refl, arith}
 use Rattle.ht_word.specs.declared.shape.Shape.{Shape}
-use Rattle.ht_word.specs.Words.{IsWordOf}
-use Rattle.ht_word.proofs.ListLaws.{Contains-here, Contains-map}
 use Rattle.ht_pair.specs.declared.row.Row.{Row}
-use Rattle.ht_pair.specs.declared.fault.RowsFault.{RowsFault}
-use Rattle.ht_pair.specs.declared.fault.RowsFault.TheVariants.{Foreign, FromNotBasis, ToNotBasis, Large, NoMemory}
-use Rattle.ht_pair.specs.Pairs.{IsPair, from_words, to_words, longest_of}
-use Rattle.ht_pair.specs.RowsFaults.{IsFirstForeign, IsRowsFault}
-use Rattle.ht_ops.specs.Blocks.{IsPairFault}
+use Rattle.ht_pair.specs.declared.fault.OpFault.{OpFault}
+use Rattle.ht_pair.specs.declared.fault.OpFault.TheVariants as op_fault
+use Rattle.ht_pair.specs.Pairs.{IsPair, longest_of}
+use Rattle.ht_pair.specs.Sizes.{IsLarge}
 use Rattle.ht_pair.proofs.SizeLaws.{canonical_small}
 
--- each row of a pair is of the shape
-pub pair_no_foreign : (shape : Shape) (rows : List Row) (place : ℕ) → IsPair shape rows → ¬ IsFirstForeign shape rows place
-pair_no_foreign shape rows place pair f =
-    let listed : Contains rows f.row = subst (λ (t : List Row). Contains t f.row) (sym f.are) (Contains-append_right f.before (f.row ∷ f.behind) f.row (Contains-here f.row f.behind)) in
-    f.foreign (record {
-      from = All-contains (IsWordOf shape) (from_words rows) f.row.from pair.from.words (Contains-map (λ (t : Row). t.from) rows f.row listed);
-      to = All-contains (IsWordOf shape) (to_words rows) f.row.to pair.to.words (Contains-map (λ (t : Row). t.to) rows f.row listed);
-    })
-
--- a pair within the limits has no fault
-pub small_no_fault : (shape : Shape) (rows : List Row) (fault : RowsFault) → IsPair shape rows → length rows ≤ 8192 → longest_of rows ≤ 1024 → IsRowsFault shape rows fault → fault ≡ NoMemory
-small_no_fault shape rows (Foreign place) pair few short h = absurd (pair_no_foreign shape rows place pair h)
-small_no_fault shape rows FromNotBasis pair few short h = absurd (h.from pair.from)
-small_no_fault shape rows ToNotBasis pair few short h = absurd (h.to pair.to)
-small_no_fault shape rows (Large count letters) pair few short h =
-    let size = h.1.0 in
+-- a pair within the limits isn't large
+pub small_not_large : (shape : Shape) (rows : List Row) (count letters : ℕ) → IsPair shape rows → length rows ≤ 8192 → longest_of rows ≤ 1024 → ¬ IsLarge shape rows count letters
+small_not_large shape rows count letters pair few short h =
+    let size = h.0 in
     let small = canonical_small shape rows size.canonical pair size.is_canonical in
-    absurd (elim h.1.1 [ inl more ↦ omega (arith, size.rows_is, small.0, more) | inr longer ↦ omega (arith, size.letters_is, small.1, longer) ])
-small_no_fault shape rows NoMemory pair few short h = refl
+    elim h.1 [ inl more ↦ omega (arith, size.rows_is, small.0, more) | inr longer ↦ omega (arith, size.letters_is, small.1, longer) ]
 
--- a pair may be too large, or memory may be wanting
-pub pair_fault : (shape : Shape) (rows : List Row) (fault : RowsFault) → IsPair shape rows → IsRowsFault shape rows fault → IsPairFault fault
-pair_fault shape rows (Foreign place) pair h = pair_no_foreign shape rows place pair h
-pair_fault shape rows FromNotBasis pair h = h.from pair.from
-pair_fault shape rows ToNotBasis pair h = h.to pair.to
-pair_fault shape rows (Large count letters) pair h = tt
-pair_fault shape rows NoMemory pair h = tt
+-- a fault that comes only of large rows, where the rows aren't large
+pub only_memory : (fault : OpFault) (P : ℕ → ℕ → Type 0) → ((count letters : ℕ) → fault ≡ op_fault.Large count letters → P count letters) → ((count letters : ℕ) → ¬ P count letters) → fault ≡ op_fault.NoMemory
+only_memory (op_fault.Large count letters) P large none = absurd (none count letters (large count letters refl))
+only_memory op_fault.NoMemory P large none = refl

@@ -26,7 +26,7 @@ use Rattle.ht_ops.specs.ImageRows.{entry_of, entries_of, AreBehindRoot}
 -- ---- the rows of an image
 
 -- they are the rows of its entries
-kept_rows : (p : List Row) → AreBehindRoot p → rows_behind (root_word 1) (entries_of p) ≡ p
+pub kept_rows : (p : List Row) → AreBehindRoot p → rows_behind (root_word 1) (entries_of p) ≡ p
 unfolding row_behind
 kept_rows [] h = refl
 kept_rows (row ∷ p) h =

@@ -5,4 +5,5 @@ pub mod RunLaws
 pub mod BlockLaws
 pub mod PowerChains
 pub mod ImageSteps
+pub mod BehindLaws
 pub mod Walking

@@ -1,9 +1,8 @@
 -- In ascending rows with prefix-free `from` words those under a word stand together.
-use Rattle.std.proofs.Common.{◌≡◌, ℕ, ◌<◌, ◌≤◌, ◌-◌, ◌+◌, inl, inr, ◌⊎◌, Bool, true, false, true≢false, List, [], ◌++◌, length, get_or, take, drop, refl, sym, ap, ◌∙◌, subst, arith, take-append-drop, All, Contains, Some, slice_get}
+use Rattle.std.proofs.Common.{◌≡◌, ℕ, ◌<◌, ◌≤◌, ◌-◌, ◌+◌, inl, inr, ◌⊎◌, true, false, true≢false, List, [], ◌++◌, length, get_or, take, drop, refl, sym, ap, ◌∙◌, subst, arith, take-append-drop, All, Contains, Some, slice_get}
 use Rattle.std.specs.Ordering.{is_lt, is_le, ordering_reverse}
-use Rattle.std.specs.List.Sorted.{IsPartitionedBy, IsPartitionPoint}
-use Rattle.std.specs.declared.cmp.Ordering.{Ordering}
-use Rattle.std.specs.declared.cmp.Ordering.TheVariants.{Less, Equal, Greater}
+use Rattle.std.specs.List.Sorted.{IsPartitionPoint}
+use Rattle.std.specs.declared.cmp.Ordering.TheVariants.{Less}
 use Rattle.std.proofs.lemmas.List.{get_or-drop, get_or-take, length-take, length-drop, get_or_default}
 use Rattle.std.proofs.lemmas.List.Elements.{All-contains}
 use Rattle.std.proofs.lemmas.Option.{slice_get_read}
@@ -15,28 +14,8 @@ use Rattle.ht_pair.specs.declared.row.Row.{Row}
 use Rattle.ht_pair.specs.Bases.{AreApart, IsPrefixFree}
 use Rattle.ht_pair.specs.Pairs.{from_words}
 use Rattle.ht_pair.proofs.ConeOrder.{IsBefore, before_less, before_extended, parted}
-use Rattle.ht_pair.proofs.RowSearch.{prefix_until}
+use Rattle.ht_pair.proofs.RowSearch.{prefix_until, is_before, less_is}
 use Rattle.ht_ops.specs.Blocks.{IsRun}
-
--- the row's `from` word is before the word
-abbrev pub is_before : Word → Row → Bool
-is_before w row = is_lt (word_cmp row.from w)
-
--- what is less is told so
-less_is : (o : Ordering) → is_lt o ≡ true → o ≡ Less
-less_is Less h = refl
-less_is Equal h = absurd (true≢false (sym h))
-less_is Greater h = absurd (true≢false (sym h))
-
--- in ascending rows those before a word stand first
-pub parted_before : (rows : List Row) (w : Word) → IsAscending (from_words rows) → IsPartitionedBy (is_before w) rows
-parted_before rows w ascending = λ i j d l m before. elim (trichotomy i j) [
-  | inl h ↦ elim h [
-    | inl less ↦ ap is_lt (word_cmp_total.trans _ _ w (AllPairs-from_map (λ (t : Row). t.from) (λ u v. word_cmp u v ≡ Less) rows ascending i j d less m) (less_is _ before))
-    | inr more ↦ absurd (omega arith)
-  ]
-  | inr e ↦ subst (λ k. is_before w (get_or rows k d) ≡ true) (sym e) before
-]
 
 -- a word under w isn't before it
 under_not_before : (u w : Word) → IsUnder u w → ¬ (word_cmp u w ≡ Less)

@@ -7,19 +7,14 @@ use Rattle.std.specs.Int.RustNames.{unsigned_abs}
 use Rattle.std.specs.Result.{IfOk}
 use Rattle.std.specs.declared.result.Result.{Result}
 use Rattle.ht_word.specs.declared.shape.Shape.{Shape}
-use Rattle.ht_pair.specs.Actions.{Moves}
 use Rattle.ht_pair.specs.Images.{Entry}
 use Rattle.ht_pair.specs.Pairs.{IsPair}
 use Rattle.ht_pair.specs.Products.{IsPower}
 use Rattle.ht_pair.specs.ValueLists.{IsValueList, IsFollowed}
 use Rattle.ht_pair.specs.declared.row.Row.{Row}
-use Rattle.ht_pair.proofs.MovesLaws.{moves_single}
 use Rattle.ht_pair.proofs.ValueListLaws.{followed_none, followed_power, followed_then}
+use Rattle.ht_pair.proofs.PowerLaws.{first_power}
 use Rattle.ht_ops.specs.Walks.{IsWalked}
-
--- each pair is its own first power
-pub power_itself : (shape : Shape) (p : List Row) → IsPair shape p → IsPower shape p (pos 1) p
-power_itself shape p pair = record { pair = pair; stepped = λ u v w h s m. moves_single p pair.from.prefix_free u v w (subst (λ t. Moves p t v) (sym s.1) s.2) m }
 
 -- before the first step
 pub none_walked : (shape : Shape) (L : List Entry) (g : List Row) → IsValueList shape L → IsWalked shape L g 0 L
@@ -57,7 +52,7 @@ abs_back (negsuc m) n e l = ap (λ j. neg_ℤ (pos j)) e
 -- steps by a pair are its power
 pub walked_ahead : {E : Type 0} (shape : Shape) (L : List Entry) (p : List Row) (k : ℤ) (n : ℕ) (r : Result (List Entry) E) → IsPair shape p → n ≡ unsigned_abs k → pos 0 ≤ℤ k
     → IfOk r (IsWalked shape L p n) → IfOk r (IsFollowed shape L p k)
-walked_ahead shape L p k n r pair e l = IfOk-weaker r (IsWalked shape L p n) (IsFollowed shape L p k) (λ M h. subst (λ j. IsFollowed shape L p j M) (abs_ahead k n e l) (h.ahead p pair (power_itself shape p pair)))
+walked_ahead shape L p k n r pair e l = IfOk-weaker r (IsWalked shape L p n) (IsFollowed shape L p k) (λ M h. subst (λ j. IsFollowed shape L p j M) (abs_ahead k n e l) (h.ahead p pair (first_power shape p pair)))
 
 -- and steps by its inverse are its power below 0
 pub walked_back : {E : Type 0} (shape given_shape : Shape) (L : List Entry) (p g : List Row) (k : ℤ) (n : ℕ) (r : Result (List Entry) E) → given_shape ≡ shape → IsPair shape p → IsPower shape p (neg_ℤ (pos 1)) g → n ≡ unsigned_abs k → k <ℤ pos 0

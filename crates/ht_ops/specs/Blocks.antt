@@ -2,22 +2,21 @@
 --
 --     IsPartOf shape q row x       x moves words under row.from as the row and then q do
 --     IsBlock shape q row block    such rows, apart and ascending, and one wherever q moves what the row gives
---     HasBlock shape q row old new    a block is added behind rows
+--     IsGiven q row block          the row and then q: one row where a row of q moves all that the row gives, and else a
+--                                  row for each of the run below its `to` word
+--     HasGiven q row old new       these rows are added behind rows
 --     IsPartOfSome shape q p x     x moves words as some row of p and then q do
 --     AreBlocks shape q p rows     the blocks of the rows of p, in order
 --     IsFullProduct shape p q s    the product of p and q that moves each word that p moves to a word that q moves, and no
 --                                  other word; its rows are in ascending order
 --     IsRun p w run                the rows whose `from` words are under w, which stand together
---     IsPairFault fault            what may be wrong with rows that are a pair: they are too large, or memory is wanting
 --     moved_by row other           the row, where the `from` word of the other is a prefix of its `to` word, and then the other
 --     carried_by row other         the row, where its `to` word is a prefix of the `from` word of the other, and then the other
-use Rattle.std.specs.Prelude.{◌≡◌, ◌↔◌, ⊤, List, ◌++◌, ℕ, length, drop, Contains}
+use Rattle.std.specs.Prelude.{◌≡◌, ◌↔◌, List, [], ◌∷◌, ◌++◌, ℕ, length, drop, map, Contains}
 use Rattle.ht_word.specs.declared.word.Word.{Word}
 use Rattle.ht_word.specs.declared.shape.Shape.{Shape}
 use Rattle.ht_word.specs.Words.{◌·◌, IsLetters, IsUnder, IsUnderSome, IsAscending}
 use Rattle.ht_pair.specs.declared.row.Row.{Row}
-use Rattle.ht_pair.specs.declared.fault.RowsFault.{RowsFault}
-use Rattle.ht_pair.specs.declared.fault.RowsFault.TheVariants.{Foreign, FromNotBasis, ToNotBasis, Large, NoMemory}
 use Rattle.ht_pair.specs.Actions.{Moves}
 use Rattle.ht_pair.specs.Bases.{IsPrefixFree}
 use Rattle.ht_pair.specs.Pairs.{from_words}
@@ -34,11 +33,6 @@ pub record IsBlock (shape : Shape) (q : List Row) (row : Row) (block : List Row)
   pub prefix_free : IsPrefixFree (from_words block)
   pub ascending : IsAscending (from_words block)
   pub covered : (z : List ℕ) → IsUnderSome (row.to · z) (from_words q) → IsUnderSome (row.from · z) (from_words block)
-
-pub record HasBlock (shape : Shape) (q : List Row) (row : Row) (old new : List Row) : Type 0 where
-  pub block : List Row
-  pub is_block : IsBlock shape q row block
-  pub added : new ≡ old ++ block
 
 pub record IsPartOfSome (shape : Shape) (q p : List Row) (x : Row) : Type 0 where
   pub row : Row
@@ -69,9 +63,11 @@ moved_by row other = record { from = row.from; to = other.to · drop (length oth
 abbrev pub carried_by : Row → Row → Row
 carried_by row other = record { from = row.from · drop (length row.to.letters) other.from.letters; to = other.to }
 
-abbrev pub IsPairFault : RowsFault → Type 0
-IsPairFault (Foreign place) = ⊥
-IsPairFault FromNotBasis = ⊥
-IsPairFault ToNotBasis = ⊥
-IsPairFault (Large rows letters) = ⊤
-IsPairFault NoMemory = ⊤
+pub data IsGiven (q : List Row) (row : Row) (block : List Row) : Type 0 where
+  whole : (other : Row) → Contains q other → IsUnder row.to other.from → block ≡ moved_by row other ∷ [] → IsGiven q row block
+  by_run : (run : List Row) → IsRun q row.to run → ((v : Word) → ¬ Moves q row.to v) → block ≡ map (carried_by row) run → IsGiven q row block
+
+pub record HasGiven (q : List Row) (row : Row) (old new : List Row) : Type 0 where
+  pub block : List Row
+  pub given : IsGiven q row block
+  pub added : new ≡ old ++ block

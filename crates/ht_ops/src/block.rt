@@ -2,10 +2,10 @@
 ghost use Rattle.std.specs.Prelude.{◌≡◌, ◌++◌, map, Contains, IfOk, OnOk};
 ghost use Rattle.ht_word.specs.Words.{IsUnder, IsAscending};
 ghost use Rattle.ht_pair.specs.declared.row.Row.{Row};
-ghost use Rattle.ht_pair.specs.Bases.{IsBasis};
+ghost use Rattle.ht_pair.specs.Bases.{IsPrefixFree, IsBasis};
 ghost use Rattle.ht_pair.specs.Pairs.{from_words};
 ghost use Rattle.ht_pair.specs.Tables.{IsTable};
-ghost use Rattle.ht_ops.specs.Blocks.{moved_by, carried_by, HasBlock, AreBlocks};
+ghost use Rattle.ht_ops.specs.Blocks.{moved_by, carried_by, HasGiven, AreBlocks};
 
 use crate::run::run_under;
 use ht_pair::{Row, Rows, place_of};
@@ -48,16 +48,15 @@ fn add_run(alloc: Global, rows: &mut Rows, row: &Row, run: &[Row]) -> Result<(),
 // Adds the rows that the row gives with the other rows: one where a row of these moves all that it
 // gives, and else one for each of the run below its `to` word. O(log N) comparisons of words for the
 // N other rows, and one for each row that is added.
-fn add_block(
+pub(crate) fn add_block(
     alloc: Global,
-    shape: Shape,
     rows: &mut Rows,
     row: &Row,
     others: &[Row],
 ) -> Result<(), NoMemory>
-    requires basis { IsBasis shape (from_words others.now) }
+    requires prefix_free { IsPrefixFree (from_words others.now) }
     requires ascending { IsAscending (from_words others.now) }
-    ensures { OnOk result (HasBlock shape others.now row.now rows.old rows.new) }
+    ensures { OnOk result (HasGiven others.now row.now rows.old rows.new) }
 {
     match place_of(others, &row.to) {
         Some(place) => {
@@ -83,7 +82,7 @@ pub(crate) fn blocks_of(
 {
     let mut blocks = Rows::new(alloc);
     for row in rows {
-        add_block(alloc, shape, &mut blocks, row, others)?;
+        add_block(alloc, &mut blocks, row, others)?;
     }
     Ok(blocks)
 }

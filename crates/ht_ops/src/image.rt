@@ -1,20 +1,20 @@
 //! Images: where powers of elements, one after another, send the words under a word.
-ghost use Rattle.std.specs.Prelude.{◌≡◌, ◌≢◌, [], ◌∷◌, map, pos, IfOk, OnOk, MatchOption};
+ghost use Rattle.std.specs.Prelude.{◌≡◌, ◌≢◌, ◌↔◌, ℕ, List, [], ◌∷◌, ◌++◌, map, pos, IsTrue, IfOk, OnOk, MatchOption};
 ghost use Rattle.ht_word.specs.declared.word.Word.{Word};
-ghost use Rattle.ht_word.specs.Words.{◌·◌};
+ghost use Rattle.ht_word.specs.Words.{◌·◌, IsLetters};
 ghost use Rattle.ht_pair.specs.declared.row.Row.{Row};
 ghost use Rattle.ht_pair.specs.Images.{Entry};
 ghost use Rattle.ht_pair.specs.Pairs.{IsPair};
 ghost use Rattle.ht_pair.specs.Tables.{IsTable};
-ghost use Rattle.ht_pair.specs.ValueLists.{IsValueList, IsFollowed};
+ghost use Rattle.ht_pair.specs.ValueLists.{IsValueList, IsFollowed, Sends};
 ghost use Rattle.ht_ops.specs.Blocks.{AreBlocks};
 ghost use Rattle.ht_ops.specs.Walks.{IsWalked};
 
-use crate::block::blocks_of;
+use crate::block::{add_block, blocks_of};
 use crate::inverses::inverse;
 use crate::powers::power;
-use ht_pair::{Element, OpFault, Row, Rows, merge_table};
-use ht_word::{NoMemory, Word};
+use ht_pair::{Element, OpFault, Row, Rows, are_same_rows, merge_table};
+use ht_word::{NoMemory, Shape, Word};
 use std::alloc::Global;
 use std::marker::Model;
 
@@ -129,6 +129,29 @@ impl Image {
         ensures { IfOk result (λ rows. rows ≡ map (λ (e : Entry). record { from = base.now · e.letters; to = e.word }) self.now) }
     {
         rows_behind(alloc, base, self.rows.as_slice())
+    }
+
+    /// What the image is behind the letters: where the words under the word with these letters behind
+    /// it are sent. A binary search, and a copy of the entries below: one where one entry sends all
+    /// these words.
+    pub fn behind(&self, alloc: Global, shape: Shape, letters: &[u8]) -> Result<Image, NoMemory>
+        requires image { IsValueList shape self.now }
+        requires letters { IsLetters shape letters.now }
+        ensures list { IfOk result (IsValueList shape) }
+        ensures sends { IfOk result (λ image. (z : List ℕ) (v : Word) → IsLetters shape z → Sends image z v ↔ Sends self.now (letters.now ++ z) v) }
+    {
+        let from = Word::new(alloc, 1);
+        let to = from.joined(alloc, letters)?;
+        let mut rows = Rows::new(alloc);
+        add_block(alloc, &mut rows, &Row { from, to }, self.rows.as_slice())?;
+        Ok(Image { rows })
+    }
+
+    /// Whether the images are one. No memory; one pass over the entries.
+    pub fn same(&self, other: &Image) -> bool
+        ensures { IsTrue result ↔ (self.now ≡ other.now) }
+    {
+        are_same_rows(self.rows.as_slice(), other.rows.as_slice())
     }
 
     // The image followed so many times by the element.

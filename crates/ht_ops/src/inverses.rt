@@ -2,9 +2,9 @@
 ghost use Rattle.std.specs.Prelude.{◌≡◌, pos, neg_ℤ, IfOk};
 ghost use Rattle.ht_pair.specs.Pairs.{turned};
 ghost use Rattle.ht_pair.specs.Products.{IsPower};
-ghost use Rattle.ht_pair.specs.declared.fault.RowsFault.TheVariants as rows_fault;
+ghost use Rattle.ht_pair.specs.declared.fault.OpFault.TheVariants as op_fault;
 
-use ht_pair::{Element, Row, Rows, RowsFault};
+use ht_pair::{Element, OpFault, Row, Rows, sort_pair};
 use ht_word::NoMemory;
 use std::alloc::Global;
 
@@ -13,8 +13,10 @@ use std::alloc::Global;
 pub fn inverse(alloc: Global, a: &Element) -> Result<Element, NoMemory>
     ensures { IfOk result (λ s. (s.shape ≡ a.now.shape) × IsPower a.now.shape a.now.rows (neg_ℤ (pos 1)) s.rows) }
 {
+    let shape = a.shape();
     let rows = turned_rows(alloc, a.rows(alloc)?)?;
-    match Element::of_rows(alloc, a.shape(), rows) {
+    let sorted = sort_pair(shape, rows)?;
+    match Element::of_pair(alloc, shape, sorted) {
         Ok(element) => Ok(element),
         Err(fault) => Err(no_memory(fault)),
     }
@@ -33,14 +35,11 @@ fn turned_rows(alloc: Global, rows: Rows) -> Result<Rows, NoMemory>
 }
 
 // The turned rows of an element are a pair within the limits, so only memory can be wanting.
-fn no_memory(fault: RowsFault) -> NoMemory
-    requires { fault ≡ rows_fault.NoMemory }
+fn no_memory(fault: OpFault) -> NoMemory
+    requires { fault ≡ op_fault.NoMemory }
 {
     match fault {
-        RowsFault::NoMemory => NoMemory,
-        RowsFault::Foreign(_)
-        | RowsFault::FromNotBasis
-        | RowsFault::ToNotBasis
-        | RowsFault::Large { .. } => unreachable!(),
+        OpFault::NoMemory => NoMemory,
+        OpFault::Large { .. } => unreachable!(),
     }
 }

@@ -24,4 +24,4 @@ pub use full::full_product;
 pub use image::Image;
 pub use inverses::inverse;
 pub use powers::power;
-pub use products::{op_fault, product};
+pub use products::product;

@@ -1,30 +1,16 @@
 //! The rows whose `from` words are under a word, which stand together in ascending rows.
-ghost use Rattle.std.specs.Prelude.{◌≡◌, ◌≤◌, true, false, Some, length, take, slice_get, All};
-ghost use Rattle.std.specs.List.Sorted.{IsPartitionPoint};
-ghost use Rattle.std.specs.Ordering.{is_lt};
-ghost use Rattle.ht_word.specs.Words.{word_cmp, IsUnder, IsAscending};
+ghost use Rattle.std.specs.Prelude.{◌≡◌, ◌≤◌, Some, length, take, slice_get, All};
+ghost use Rattle.ht_word.specs.Words.{IsUnder, IsAscending};
 ghost use Rattle.ht_pair.specs.declared.row.Row.{Row};
 ghost use Rattle.ht_pair.specs.Bases.{IsPrefixFree};
 ghost use Rattle.ht_pair.specs.Pairs.{from_words};
 ghost use Rattle.ht_ops.specs.Blocks.{IsRun};
 
-use ht_pair::Row;
+use ht_pair::{Row, first_under};
 use ht_word::Word;
 
-// How many rows, the first ones, have a `from` word before the word. O(log N) comparisons of words.
-fn count_before(rows: &[Row], word: &Word) -> usize
-    requires { IsAscending (from_words rows.now) }
-    ensures bound { result ≤ length rows.now }
-    ensures point { IsPartitionPoint (λ (row : Row). is_lt (word_cmp row.from word.now) ≡ true) (λ (row : Row). is_lt (word_cmp row.from word.now) ≡ false) rows.now result }
-{
-    rows.partition_point(
-        |row: &Row| -> bool
-            ensures { result ≡ is_lt (word_cmp row.now.from word.entry.now) }
-        { row.from.order(word).is_lt() },
-    )
-}
-
-// How many rows, the first ones, have a `from` word under the word. As many comparisons of words.
+// How many rows, the first ones, have a `from` word under the word. One comparison of words for
+// each, and one more.
 fn count_under(rows: &[Row], word: &Word) -> usize
     ensures bound { result ≤ length rows.now }
     ensures under { All (λ (row : Row). IsUnder row.from word.now) (take result rows.now) }
@@ -45,6 +31,6 @@ pub(crate) fn run_under<'a>(rows: &'a [Row], word: &Word) -> &'a [Row]
     requires ascending { IsAscending (from_words rows.now) }
     ensures { IsRun rows.now word.now result.now }
 {
-    let behind = &rows[count_before(rows, word)..];
+    let behind = &rows[first_under(rows, word)..];
     &behind[..count_under(behind, word)]
 }

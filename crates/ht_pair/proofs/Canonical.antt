@@ -1,5 +1,5 @@
 -- All merges made along the rows of a table; those of a pair make its canonical pair.
-use Rattle.std.proofs.Common.{◌≤◌, List, [], ◌∷◌, ◌++◌, map, sym, subst, append_assoc, append-nil, arith, Contains, IsPermutation}
+use Rattle.std.proofs.Common.{◌≤◌, ℕ, List, [], ◌∷◌, ◌++◌, map, sym, subst, append_assoc, append-nil, arith, Contains, IsPermutation}
 use Rattle.std.proofs.lemmas.List.Elements.{All-contains, Contains-append_left}
 use Rattle.std.proofs.lemmas.List.Sorted.{Contains-permutation, IsPermutation-sym, length_permutation}
 use Rattle.ht_word.specs.declared.word.Word.{Word}
@@ -9,9 +9,10 @@ use Rattle.ht_word.proofs.ListLaws.{Contains-nil, Contains-map, contained_in_map
 use Rattle.ht_pair.specs.declared.row.Row.{Row}
 use Rattle.ht_pair.specs.Bases.{longest}
 use Rattle.ht_pair.specs.Pairs.{IsPair, from_words}
-use Rattle.ht_pair.specs.Actions.{Moves, child_row, IsReduced}
+use Rattle.ht_pair.specs.Actions.{Moves, child_row, IsReduced, IsCanonicalFor}
 use Rattle.ht_pair.specs.Merges.{Merges, IsAdded, IsReducedOf}
 use Rattle.ht_pair.specs.Merges.Merges.{unmerged}
+use Rattle.ht_pair.specs.Sizes.{IsLarge}
 use Rattle.ht_pair.specs.Tables.{IsTable, IsMergedTable}
 use Rattle.ht_pair.proofs.BasisLaws.{longest_bounds, longest_least}
 use Rattle.ht_pair.proofs.ConeOrder.{IsBefore, all_before, before_free, before_ascending}
@@ -88,11 +89,18 @@ longest_within side p q listed = longest_least (map side q) (longest (map side p
     longest_bounds (map side p) w (subst (Contains (map side p)) g.2 (Contains-map side p g.0 (listed g.0 g.1))))
 
 -- the canonical pair of rows is that of the rows in another order
+pub canonical_permuted : (shape : Shape) (rows sorted q : List Row) → IsPermutation rows sorted → IsCanonicalFor shape q sorted → IsCanonicalFor shape q rows
+canonical_permuted shape rows sorted q perm h = record { form = h.form; alike = λ w v v' k m m'. h.alike w v v' k m (moves_permuted rows sorted perm w v' m') }
+
 pub reduced_permuted : (shape : Shape) (rows sorted q : List Row) → IsPermutation rows sorted → IsReducedOf shape sorted q → IsReducedOf shape rows q
 reduced_permuted shape rows sorted q perm h =
     let listed = λ (row : Row) (c : Contains sorted row). Contains-permutation sorted rows row (IsPermutation-sym rows sorted perm) c in
     record {
-      canonical = record { form = h.canonical.form; alike = λ w v v' k m m'. h.canonical.alike w v v' k m (moves_permuted rows sorted perm w v' m') };
+      canonical = canonical_permuted shape rows sorted q perm h.canonical;
       fewer = omega (arith, h.fewer, length_permutation rows sorted perm);
       shorter = omega (arith, h.shorter, longest_within (λ row. row.from) rows sorted listed, longest_within (λ row. row.to) rows sorted listed);
     }
+
+-- so rows in another order are large together
+pub large_permuted : (shape : Shape) (rows sorted : List Row) (count letters : ℕ) → IsPermutation rows sorted → IsLarge shape sorted count letters → IsLarge shape rows count letters
+large_permuted shape rows sorted count letters perm h = (record { canonical = h.0.canonical; is_canonical = canonical_permuted shape rows sorted h.0.canonical perm h.0.is_canonical; rows_is = h.0.rows_is; letters_is = h.0.letters_is }, h.1)

@@ -72,7 +72,7 @@ pub held_expanded_at : (shape : Shape) (X : List Word) (marks : List Bool) → I
 held_expanded_at shape X marks h = held_behind shape [] X marks h
 
 -- a list is what is before a place, the word there and what is behind
-parts_at : (X : List Word) (place : ℕ) (x : Word) → slice_get X place ≡ Some x → X ≡ take place X ++ x ∷ drop (place + 1) X
+pub parts_at : (X : List Word) (place : ℕ) (x : Word) → slice_get X place ≡ Some x → X ≡ take place X ++ x ∷ drop (place + 1) X
 parts_at X place x e =
     let within : place < length X = slice_get_within X place x e in
     sym (take-append-drop place X) ∙ ap (λ t. take place X ++ t) (drop-cons X place x within ∙ ap (λ t. t ∷ drop (suc place) X) (get_or_from_slice_get X place x x e) ∙ ap (λ k. x ∷ drop k X) (sym (add-one place)))

@@ -1,8 +1,8 @@
 -- The identity.
-use Rattle.std.proofs.Common.{◌≡◌, ℕ, zero, suc, ◌+◌, List, [], ◌∷◌, ◌++◌, length, inl, inr, refl, sym, ap, ◌∙◌, subst, map, arith, add-one}
+use Rattle.std.proofs.Common.{◌≡◌, ℕ, zero, suc, ◌+◌, List, [], ◌∷◌, ◌++◌, length, inl, inr, refl, sym, ap, ◌∙◌, subst, map, arith, add-one, pos}
 use Rattle.std.proofs.lemmas.List.{map-append}
 use Rattle.std.specs.declared.cmp.Ordering.TheVariants.{Less}
-use Rattle.ht_word.specs.Words.{◌·◌, child, root_word, word_cmp, IsAscending}
+use Rattle.ht_word.specs.Words.{◌·◌, child, root_word, word_cmp, IsAscending, IsWordOf}
 use Rattle.ht_word.specs.declared.shape.Shape.{Shape}
 use Rattle.ht_word.specs.declared.word.Word.{Word}
 use Rattle.ht_word.proofs.WordLaws.{length-after}
@@ -13,6 +13,9 @@ use Rattle.ht_pair.specs.Pairs.{from_words, to_words, IsPair, identity}
 use Rattle.ht_pair.specs.declared.row.Row.{Row}
 use Rattle.ht_pair.proofs.BasisLaws.{roots_basis, root_at_most, longest_bounds, longest-roots}
 use Rattle.ht_pair.proofs.ConeOrder.{before_less}
+use Rattle.ht_pair.specs.Orders.{FixesRoots}
+use Rattle.ht_pair.specs.Steps.{Carries}
+use Rattle.ht_pair.proofs.CarriesLaws.{carries_extends}
 
 -- the row from a word to itself
 keep : Word → Row
@@ -68,3 +71,7 @@ unfolding keep
 one_more_root k rows row are from to =
     let is : row ≡ keep (root_word (suc k)) = λ i. record { from = (from ∙ ap root_word (add-one k)) i; to = (to ∙ ap root_word (add-one k)) i } in
     ap (λ t. t ++ row ∷ []) are ∙ ap (λ t. map keep (roots_to k) ++ t ∷ []) is ∙ sym (map-append keep (roots_to k) (root_word (suc k) ∷ [])) ∙ ap (λ j. map keep (roots_to j)) (sym (add-one k))
+
+-- a power that fixes the roots carries each word to itself
+pub fixed_word : (shape : Shape) (p : List Row) (k : ℕ) → FixesRoots shape p k → (u : Word) → IsWordOf shape u → Carries shape p (pos k) u u
+fixed_word shape p k fixes u h = carries_extends shape p (pos k) (root_word u.root) (root_word u.root) u.letters h.letters (fixes u.root h.root_low h.root_high)

@@ -9,6 +9,7 @@ use Rattle.ht_word.proofs.WordLaws.{after-append, after-nil, after_cancel, word_
 use Rattle.ht_num.proofs.NumberLaws.{once_least}
 use Rattle.ht_pair.specs.Kinds.{IsCycle, Lengthens, IsAttractor, IsRepeller}
 use Rattle.ht_pair.specs.Pairs.{IsPair, turned}
+use Rattle.ht_pair.specs.Repeats.{repeated}
 use Rattle.ht_pair.specs.Steps.{Carries}
 use Rattle.ht_pair.specs.declared.row.Row.{Row}
 use Rattle.ht_pair.proofs.CarriesLaws.{carries_single, carries_word, carries_extends, carries_none, carries_add, carries_back, carries_sum, carries_itself}
@@ -16,11 +17,6 @@ use Rattle.ht_pair.proofs.MovesLaws.{turned_pair}
 use Rattle.ht_pair.proofs.TurnedLaws.{carries_of_turned, carries_to_turned}
 
 -- ---- letters again and again
-
--- a list of letters s times
-unfoldable pub repeated : ℕ → List ℕ → List ℕ
-repeated zero G = []
-repeated (suc s) G = repeated s G ++ G
 
 -- s times some letters are s letters at least
 pub length-repeated : (s : ℕ) (G : List ℕ) → G ≢ [] → s ≤ length (repeated s G)

@@ -76,8 +76,8 @@ chain_words shape p pair X i (suc k) x c comes leads =
 -- ---- rounds
 
 -- N has each word under X that p carries to no word under X
-unfoldable pub HasInner : Shape → List Row → List Word → List Word → Type 0
-HasInner shape p X N = (u : Word) → IsWordOf shape u → IsUnderSome u X → ¬ CarriesUnder shape p (pos 1) u X → Contains N u
+unfoldable pub HasSplitWords : Shape → List Row → List Word → List Word → Type 0
+HasSplitWords shape p X N = (u : Word) → IsWordOf shape u → IsUnderSome u X → ¬ CarriesUnder shape p (pos 1) u X → Contains N u
 
 -- a semi-normal basis, under which every semi-normal basis is
 pub record IsLeastSemiNormal (shape : Shape) (p : List Row) (V : List Word) : Type 0 where
@@ -93,8 +93,8 @@ without (y ∷ N) x c = elim (Contains-cons_cases y N x c) [
 ]
 
 -- one bad chain after another is expanded; each takes a word off the list N
-pub rounds : (shape : Shape) (p : List Row) → IsPair shape p → IsReduced shape p → (k : ℕ) (X N : List Word) → IsBasis shape X → length N ≤ k → HasInner shape p X N → ((W : List Word) → IsSemiNormal shape p W → IsAllUnder W X) → (V : List Word) × IsLeastSemiNormal shape p V × (longest V ≤ longest X + k)
-unfolding HasInner Splits IsJoined ComesFromJoined
+pub rounds : (shape : Shape) (p : List Row) → IsPair shape p → IsReduced shape p → (k : ℕ) (X N : List Word) → IsBasis shape X → length N ≤ k → HasSplitWords shape p X N → ((W : List Word) → IsSemiNormal shape p W → IsAllUnder W X) → (V : List Word) × IsLeastSemiNormal shape p V × (longest V ≤ longest X + k)
+unfolding HasSplitWords Splits IsJoined ComesFromJoined
 rounds shape p pair reduced zero X N basis l inner wide = elim (bad_or_none shape p pair reduced X basis) [
   | inr none ↦ (X, record { semi_normal = semi_normal_without shape p pair X none; least = wide }, omega arith)
   | inl bad ↦ absurd (
@@ -153,8 +153,8 @@ shorter_holds shape (suc k) u h l = elim (cases_lt (length u.letters) k) [
 ]
 
 -- at the roots, the words that are carried to no word are shorter than some `from` word
-inner_roots : (shape : Shape) (p : List Row) → IsPair shape p → HasInner shape p (roots shape) (shorter shape (longest (from_words p)))
-unfolding HasInner
+inner_roots : (shape : Shape) (p : List Row) → IsPair shape p → HasSplitWords shape p (roots shape) (shorter shape (longest (from_words p)))
+unfolding HasSplitWords
 inner_roots shape p pair = λ u h s out. elim (cases_lt (length u.letters) (longest (from_words p))) [
   | inl l ↦ shorter_holds shape (longest (from_words p)) u h l
   | inr l ↦ absurd (let m = pair_moves shape p pair u h l in out (record { to = m.0; carries = carries_from_steps shape p pair (pos 1) u m.0 h (u, refl, m.2); under = under_roots shape m.0 m.1 }))
@@ -162,7 +162,7 @@ inner_roots shape p pair = λ u h s out. elim (cases_lt (length u.letters) (long
 
 -- a reduced pair has a least semi-normal basis
 pub least_semi_normal : (shape : Shape) (p : List Row) → IsPair shape p → IsReduced shape p → (V : List Word) × IsLeastSemiNormal shape p V
-unfolding HasInner
+unfolding HasSplitWords
 least_semi_normal shape p pair reduced =
     let N = shorter shape (longest (from_words p)) in
     let r = rounds shape p pair reduced (length N) (roots shape) N (roots_basis shape) (omega arith) (inner_roots shape p pair)

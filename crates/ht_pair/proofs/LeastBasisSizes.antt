@@ -19,12 +19,12 @@ use Rattle.ht_pair.proofs.BasisSizes.{length-roots}
 use Rattle.ht_pair.proofs.CarriesLaws.{carries_word, carries_from_steps}
 use Rattle.ht_pair.proofs.CountLaws.{no_fewer_below}
 use Rattle.ht_pair.proofs.InnerNodeLaws.{inner_nodes}
-use Rattle.ht_pair.proofs.LeastBasisLaws.{HasInner, rounds}
+use Rattle.ht_pair.proofs.LeastBasisLaws.{HasSplitWords, rounds}
 use Rattle.ht_pair.proofs.Sequences.{length-each}
 
 -- a word that is carried to no word has no row above it
-inner_at_roots : (shape : Shape) (p : List Row) → IsPair shape p → (N : List Word) → ((w : Word) → IsWordOf shape w → ¬ IsUnderSome w (from_words p) → Contains N w) → HasInner shape p (roots shape) N
-unfolding HasInner
+inner_at_roots : (shape : Shape) (p : List Row) → IsPair shape p → (N : List Word) → ((w : Word) → IsWordOf shape w → ¬ IsUnderSome w (from_words p) → Contains N w) → HasSplitWords shape p (roots shape) N
+unfolding HasSplitWords
 inner_at_roots shape p pair N holds = λ u h s out. holds u h (λ above.
     let g = contained_in_map (λ (t : Row). t.from) p above.above above.listed in
     let v = g.0.to · above.under.rest in

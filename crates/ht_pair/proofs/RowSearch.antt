@@ -1,6 +1,6 @@
 -- Items in order of a word each, and the one whose word is a prefix of a word.
 use Rattle.std.proofs.Common.{◌≡◌, ℕ, suc, ◌<◌, ◌≤◌, ◌-◌, inl, inr, Bool, true, false, true≢false, List, [], ◌∷◌, ◌++◌, length, get_or, map, drop, Contains, Option, None, Some, slice_get, MatchOption, refl, sym, ap, ◌∙◌, subst, arith, take-append-drop}
-use Rattle.std.specs.Ordering.{is_le, nat_cmp, ordering_then, ordering_reverse}
+use Rattle.std.specs.Ordering.{is_lt, is_le, nat_cmp, ordering_then, ordering_reverse}
 use Rattle.std.specs.Cmp.{nat_cmp_is}
 use Rattle.std.specs.Cmp.Lexicographic.{slice_cmp}
 use Rattle.std.specs.List.Sorted.{IsPartitionedBy, IsPartitionPoint}
@@ -54,6 +54,26 @@ parted_at head items w ascending = λ i j d l m until. elim (trichotomy i j) [
     | inr more ↦ absurd (omega arith)
   ]
   | inr e ↦ subst (λ k. is_until head w (get_or items k d) ≡ true) (sym e) until
+]
+
+-- the row's `from` word is before the word
+abbrev pub is_before : Word → Row → Bool
+is_before w row = is_lt (word_cmp row.from w)
+
+-- what is less is told so
+pub less_is : (o : Ordering) → is_lt o ≡ true → o ≡ Less
+less_is Less h = refl
+less_is Equal h = absurd (true≢false (sym h))
+less_is Greater h = absurd (true≢false (sym h))
+
+-- in ascending rows those before a word stand first
+pub parted_before : (rows : List Row) (w : Word) → IsAscending (from_words rows) → IsPartitionedBy (is_before w) rows
+parted_before rows w ascending = λ i j d l m before. elim (trichotomy i j) [
+  | inl h ↦ elim h [
+    | inl less ↦ ap is_lt (word_cmp_total.trans _ _ w (AllPairs-from_map (λ (t : Row). t.from) (λ u v. word_cmp u v ≡ Less) rows ascending i j d less m) (less_is _ before))
+    | inr more ↦ absurd (omega arith)
+  ]
+  | inr e ↦ subst (λ k. is_before w (get_or rows k d) ≡ true) (sym e) before
 ]
 
 -- where the first k items are those that aren't after a word

@@ -1,5 +1,5 @@
 -- What sorting leaves of bases and pairs.
-use Rattle.std.proofs.Common.{◌≡◌, ◌↔◌, ℕ, suc, ◌<◌, ◌+◌, inl, inr, Bool, true, false, true≢false, IsTrue, is_lt, List, ◌∷◌, ◌++◌, length, get_or, take, drop, refl, sym, ap, ◌∙◌, arith, All, Contains, Less, IsPermutation, IsSorted, length-take}
+use Rattle.std.proofs.Common.{◌≡◌, ◌↔◌, ℕ, suc, ◌<◌, ◌+◌, inl, inr, Bool, true, false, true≢false, IsTrue, is_lt, List, ◌∷◌, ◌++◌, length, get_or, take, drop, map, refl, sym, ap, ◌∙◌, arith, All, Contains, Less, IsPermutation, IsSorted, length-take}
 use Rattle.std.specs.Ordering.{is_eq, eq_by_cmp}
 use Rattle.std.proofs.lemmas.Cmp.{eq_by_cmp_equiv}
 use Rattle.std.proofs.lemmas.List.Elements.{All-map, Contains-get_or}
@@ -16,7 +16,8 @@ use Rattle.ht_pair.specs.declared.side.Side.{Side}
 use Rattle.ht_pair.specs.declared.side.Side.TheVariants.{From, To}
 use Rattle.ht_pair.specs.Bases.{AreApart, IsPrefixFree, longest, IsBasis}
 use Rattle.ht_pair.specs.Pairs.{IsPair}
-use Rattle.ht_pair.specs.Sides.{word_on, words_on, row_cmp, IsSortedSide, IsSortedPair}
+use Rattle.ht_pair.specs.Sides.{word_on, words_on, IsSortedPair}
+use Rattle.ht_pair.specs.SortedItems.{head_cmp, AreSorted}
 use Rattle.ht_pair.specs.RowsFaults.{IsRowOf, AreRowsOf, IsFirstForeign, IsFromFault, IsToFault}
 use Rattle.ht_pair.proofs.BasisLaws.{some_at, prefix_free_same, basis_holds, basis_from}
 use Rattle.ht_pair.proofs.ConeOrder.{before_less, apart_before}
@@ -53,31 +54,31 @@ basis_permuted shape X Y h b = basis_from shape Y (All-permutation (IsWordOf sha
 apart_sorted : (u v : Word) → AreApart u v → is_lt (word_cmp v u) ≡ false → word_cmp u v ≡ Less
 apart_sorted u v apart no_less = elim (apart_before u v apart) [ inl b ↦ before_less u v b | inr b ↦ absurd (true≢false (sym (ap is_lt (before_less v u b)) ∙ no_less)) ]
 
--- sorted words that are apart are in ascending order
-sorted_ascending : (side : Side) (rows : List Row) → IsPrefixFree (words_on side rows) → IsSorted (row_cmp side) rows → IsAscending (words_on side rows)
-sorted_ascending side rows free sorted =
-    let apart = AllPairs-from_map (word_on side) AreApart rows free in
-    AllPairs-map (word_on side) (λ u v. word_cmp u v ≡ Less) rows
-    (λ i j d l m. apart_sorted _ _ (apart i j d l m) (sorted_far (λ a b. is_lt (row_cmp side a b)) (ranks_by word_cmp_total (word_on side)) rows sorted i j d (omega arith) m))
+-- sorted items whose heads are apart are in ascending order
+sorted_ascending : {T : Type 0} (head : T → Word) (items : List T) → IsPrefixFree (map head items) → IsSorted (head_cmp head) items → IsAscending (map head items)
+sorted_ascending head items free sorted =
+    let apart = AllPairs-from_map head AreApart items free in
+    AllPairs-map head (λ u v. word_cmp u v ≡ Less) items
+    (λ i j d l m. apart_sorted _ _ (apart i j d l m) (sorted_far (λ a b. is_lt (head_cmp head a b)) (ranks_by word_cmp_total head) items sorted i j d (omega arith) m))
 
--- rows in another order have a basis on the same sides
-side_permuted : (shape : Shape) (side : Side) (rows moved : List Row) → IsPermutation rows moved → IsBasis shape (words_on side rows) → IsBasis shape (words_on side moved)
-side_permuted shape side rows moved h = basis_permuted shape (words_on side rows) (words_on side moved) (IsPermutation-map (word_on side) rows moved h)
+-- items in another order have a basis of heads too
+heads_permuted : {T : Type 0} (shape : Shape) (head : T → Word) (items moved : List T) → IsPermutation items moved → IsBasis shape (map head items) → IsBasis shape (map head moved)
+heads_permuted shape head items moved h = basis_permuted shape (map head items) (map head moved) (IsPermutation-map head items moved h)
 
 -- and a pair stays one
 pub pair_permuted : (shape : Shape) (rows moved : List Row) → IsPermutation rows moved → IsPair shape rows → IsPair shape moved
-pair_permuted shape rows moved h pair = record { from = side_permuted shape From rows moved h pair.from; to = side_permuted shape To rows moved h pair.to }
+pair_permuted shape rows moved h pair = record { from = heads_permuted shape (word_on From) rows moved h pair.from; to = heads_permuted shape (word_on To) rows moved h pair.to }
 
--- a side that is a basis is one in ascending order once it is sorted
-pub side_sorted : (shape : Shape) (side : Side) (rows sorted : List Row) → IsPermutation rows sorted → IsSorted (row_cmp side) sorted → IsBasis shape (words_on side rows) → IsBasis shape (words_on side sorted) × IsAscending (words_on side sorted)
-side_sorted shape side rows sorted h order b = let c = side_permuted shape side rows sorted h b in (c, sorted_ascending side sorted c.prefix_free order)
+-- heads that are a basis are one in ascending order once the items are sorted
+pub heads_sorted : {T : Type 0} (shape : Shape) (head : T → Word) (items sorted : List T) → IsPermutation items sorted → IsSorted (head_cmp head) sorted → IsBasis shape (map head items) → IsBasis shape (map head sorted) × IsAscending (map head sorted)
+heads_sorted shape head items sorted h order b = let c = heads_permuted shape head items sorted h b in (c, sorted_ascending head sorted c.prefix_free order)
 
 -- the sorted rows of a pair are a pair in ascending order
-pub sorted_pair_is : (shape : Shape) (rows sorted : List Row) → IsPair shape rows → IsPermutation rows sorted → IsSorted (row_cmp From) sorted → IsSortedPair shape rows sorted
+pub sorted_pair_is : (shape : Shape) (rows sorted : List Row) → IsPair shape rows → IsPermutation rows sorted → IsSorted (head_cmp (word_on From)) sorted → IsSortedPair shape rows sorted
 sorted_pair_is shape rows sorted pair h order = record {
   permuted = h;
   pair = pair_permuted shape rows sorted h pair;
-  ascending = (side_sorted shape From rows sorted h order pair.from).1;
+  ascending = (heads_sorted shape (word_on From) rows sorted h order pair.from).1;
 }
 
 -- words of a side of rows of the shape are of the shape
@@ -85,24 +86,28 @@ pub rows_words : (shape : Shape) (side : Side) (rows : List Row) → AreRowsOf s
 rows_words shape From rows h = All-map (IsWordOf shape) (word_on From) rows (λ k d l. (h k d l).from)
 rows_words shape To rows h = All-map (IsWordOf shape) (word_on To) rows (λ k d l. (h k d l).to)
 
--- the test of sorted rows decides whether the side is a basis
-pub side_tested : (shape : Shape) (side : Side) (rows sorted : List Row) (test : Bool) → IsPermutation rows sorted → IsSorted (row_cmp side) sorted
-    → IsTrue test ↔ (IsBasis shape (words_on side sorted) × IsAscending (words_on side sorted)) → IsSortedSide shape side rows sorted test
-side_tested shape side rows sorted test h order told = record {
+-- heads of items in another order are of the shape
+pub heads_of_shape : {T : Type 0} (shape : Shape) (head : T → Word) (items sorted : List T) → IsPermutation items sorted → All (IsWordOf shape) (map head items) → All (IsWordOf shape) (map head sorted)
+heads_of_shape shape head items sorted h words = All-permutation (IsWordOf shape) (map head items) (map head sorted) (IsPermutation-map head items sorted h) words
+
+-- the test of sorted items decides whether their heads are a basis
+pub heads_tested : {T : Type 0} (shape : Shape) (head : T → Word) (items sorted : List T) (test : Bool) → IsPermutation items sorted → IsSorted (head_cmp head) sorted
+    → IsTrue test ↔ (IsBasis shape (map head sorted) × IsAscending (map head sorted)) → AreSorted shape head items sorted test
+heads_tested shape head items sorted test h order told = record {
   permuted = h;
-  basis = (λ t. side_permuted shape side sorted rows (IsPermutation-sym rows sorted h) (told.0 t).0, λ b. told.1 (side_sorted shape side rows sorted h order b));
+  basis = (λ t. heads_permuted shape head sorted items (IsPermutation-sym items sorted h) (told.0 t).0, λ b. told.1 (heads_sorted shape head items sorted h order b));
   ascending = λ t. (told.0 t).1;
 }
 
 -- rows sorted by `to`, then by `from`, with both sides a basis
-pub both_sorted : (shape : Shape) (rows by_to by_from : List Row) → IsSortedSide shape To rows by_to true → IsSortedSide shape From by_to by_from true → IsSortedPair shape rows by_from
+pub both_sorted : (shape : Shape) (rows by_to by_from : List Row) → AreSorted shape (word_on To) rows by_to true → AreSorted shape (word_on From) by_to by_from true → IsSortedPair shape rows by_from
 both_sorted shape rows by_to by_from to from =
     let h = IsPermutation-trans rows by_to by_from to.permuted from.permuted in
     record {
       permuted = h;
       pair = record {
-        from = side_permuted shape From by_to by_from from.permuted (from.basis.0 refl);
-        to = side_permuted shape To rows by_from h (to.basis.0 refl);
+        from = heads_permuted shape (word_on From) by_to by_from from.permuted (from.basis.0 refl);
+        to = heads_permuted shape (word_on To) rows by_from h (to.basis.0 refl);
       };
       ascending = from.ascending refl;
     }
@@ -112,16 +117,16 @@ pub rows_permuted : (shape : Shape) (rows moved : List Row) → IsPermutation ro
 rows_permuted shape rows moved h all = All-permutation (IsRowOf shape) rows moved h all
 
 -- the `from` words of the rows in order of `to` tell of the rows
-pub from_fault : (shape : Shape) (rows by_to by_from : List Row) → AreRowsOf shape rows → IsPermutation rows by_to → IsSortedSide shape From by_to by_from false → IsFromFault shape rows
+pub from_fault : (shape : Shape) (rows by_to by_from : List Row) → AreRowsOf shape rows → IsPermutation rows by_to → AreSorted shape (word_on From) by_to by_from false → IsFromFault shape rows
 from_fault shape rows by_to by_from all h from = record {
   of_shape = all;
-  from = λ b. true≢false (sym (from.basis.1 (side_permuted shape From rows by_to h b)));
+  from = λ b. true≢false (sym (from.basis.1 (heads_permuted shape (word_on From) rows by_to h b)));
 }
 
-pub to_fault : (shape : Shape) (rows by_to by_from : List Row) → AreRowsOf shape rows → IsSortedSide shape To rows by_to false → IsSortedSide shape From by_to by_from true → IsToFault shape rows
+pub to_fault : (shape : Shape) (rows by_to by_from : List Row) → AreRowsOf shape rows → AreSorted shape (word_on To) rows by_to false → AreSorted shape (word_on From) by_to by_from true → IsToFault shape rows
 to_fault shape rows by_to by_from all to from = record {
   of_shape = all;
-  from = side_permuted shape From by_to rows (IsPermutation-sym rows by_to to.permuted) (from.basis.0 refl);
+  from = heads_permuted shape (word_on From) by_to rows (IsPermutation-sym rows by_to to.permuted) (from.basis.0 refl);
   to = λ b. true≢false (sym (to.basis.1 b));
 }
 

@@ -242,7 +242,7 @@ cone_value shape u word = record {
 }
 
 -- it sends letters to the word with the letters
-cone_sends : (u : Word) (t : List ℕ) → Sends (cone_of u) t (u · t)
+pub cone_sends : (u : Word) (t : List ℕ) → Sends (cone_of u) t (u · t)
 cone_sends u t = record { entry = record { letters = []; word = u }; rest = t; listed = Contains-here (record { letters = []; word = u }) []; from = refl; to = refl }
 
 -- words behind root 1 that cover it cover u behind u

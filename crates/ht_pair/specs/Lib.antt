@@ -5,6 +5,7 @@ pub mod Bases
 pub mod Pairs
 pub mod Actions
 pub mod Sides
+pub mod SortedItems
 pub mod Tilings
 pub mod Merges
 pub mod Tables
@@ -17,6 +18,7 @@ pub mod Products
 pub mod Conjugacy
 pub mod SemiNormal
 pub mod BadChains
+pub mod Repeats
 pub mod Kinds
 pub mod Reaches
 pub mod Parts

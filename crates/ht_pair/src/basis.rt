@@ -1,10 +1,11 @@
-//! Bases in ascending order.
-ghost use Rattle.std.specs.Prelude.{◌≡◌, ◌+◌, ◌<◌, [], ◌∷◌, ◌++◌, length, take, drop, IfOk, OnOk, OnErr, MatchOption};
-ghost use Rattle.ht_word.specs.Words.{IsUnderSome};
-ghost use Rattle.ht_pair.specs.Bases.{roots};
+//! Bases in ascending order, and the test whether words are a basis.
+ghost use Rattle.std.specs.Prelude.{◌≡◌, ◌+◌, ◌<◌, [], ◌∷◌, ◌++◌, ◌↔◌, length, take, drop, All, IfOk, IsTrue, OnOk, OnErr, MatchOption};
+ghost use Rattle.ht_word.specs.Words.{IsWordOf, IsUnderSome};
+ghost use Rattle.ht_pair.specs.Bases.{roots, IsBasis};
 ghost use Rattle.ht_pair.specs.HeldBases.{IsHeldBasis, children, expanded_at, IsExpandedAt, IsPlaceAbove};
 
-use crate::headed::place_above;
+use crate::headed::{Itself, place_above};
+use crate::sorted::sort_and_test;
 use ht_word::{NoMemory, Shape, Word, Words};
 use std::alloc::Global;
 use std::marker::Model;
@@ -65,7 +66,7 @@ impl Basis {
     pub fn find(&self, word: &Word) -> Option<usize>
         ensures { MatchOption result (¬ IsUnderSome word.now self.now.words) (IsPlaceAbove self.now.words word.now) }
     {
-        place_above(self.words.as_slice(), word)
+        place_above(Itself, self.words.as_slice(), word)
     }
 
     /// The words, in ascending order.
@@ -82,6 +83,16 @@ impl Basis {
     {
         self.shape
     }
+}
+
+/// Whether the words are a basis, in any order. Sorts N words by O(N log N) comparisons of words,
+/// then makes one pass over their letters.
+pub fn is_basis(shape: Shape, words: Words) -> Result<bool, NoMemory>
+    requires { All (IsWordOf shape) words }
+    ensures { IfOk result (λ yes. IsTrue yes ↔ IsBasis shape words) }
+{
+    let (_sorted, is_basis) = sort_and_test(shape, Itself, words)?;
+    Ok(is_basis)
 }
 
 // The roots, in order.

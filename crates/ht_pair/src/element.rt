@@ -1,17 +1,19 @@
 //! Elements of the group.
-ghost use Rattle.std.specs.Prelude.{◌≡◌, ◌≤◌, ◌↔◌, Some, length, slice_get, IsTrue, IfOk, IfErr, OnOk, MatchOption};
+ghost use Rattle.std.specs.Prelude.{ℕ, ◌≡◌, ◌≤◌, ◌↔◌, Some, length, slice_get, IsTrue, IfOk, IfErr, OnOk, IsErrOf, MatchOption};
 ghost use Rattle.ht_word.specs.declared.word.Word.{Word};
-ghost use Rattle.ht_word.specs.Words.{IsUnder};
+ghost use Rattle.ht_word.specs.Words.{IsUnder, IsAscending};
+ghost use Rattle.ht_pair.specs.declared.fault.OpFault.TheVariants as op_fault;
 ghost use Rattle.ht_pair.specs.declared.row.Row.{Row};
-ghost use Rattle.ht_pair.specs.Pairs.{IsPair, identity, longest_of};
+ghost use Rattle.ht_pair.specs.Pairs.{IsPair, from_words, identity, longest_of};
 ghost use Rattle.ht_pair.specs.Actions.{Alike, IsCanonical, IsCanonicalFor, Moves};
 ghost use Rattle.ht_pair.specs.Elements.{IsElement};
 ghost use Rattle.ht_pair.specs.RowsFaults.{IsRowsFault};
+ghost use Rattle.ht_pair.specs.Sizes.{IsLarge};
 
 use crate::moves::{are_same_rows, identity_rows, move_by, place_of};
 use crate::pair::sorted_pair;
 use crate::reduce::merge_rows;
-use crate::{Row, Rows, RowsFault};
+use crate::{OpFault, Row, Rows, RowsFault};
 use ht_word::{NoMemory, Shape, Word};
 use std::alloc::Global;
 use std::marker::Model;
@@ -57,10 +59,29 @@ impl Element {
         ensures fault { IfErr result (IsRowsFault shape rows) }
     {
         let sorted = sorted_pair(shape, rows)?;
-        let rows = merge_rows(alloc, shape, sorted)?;
+        match Element::of_pair(alloc, shape, sorted) {
+            Ok(element) => Ok(element),
+            Err(OpFault::Large { rows, letters }) => Err(RowsFault::Large { rows, letters }),
+            Err(OpFault::NoMemory) => Err(RowsFault::NoMemory),
+        }
+    }
+
+    /// The element whose rows these are: a pair, in ascending order of `from`, reduced or not.
+    /// `Large` comes where the canonical pair is larger than an element may be. Goes over the letters
+    /// of the rows once.
+    pub fn of_pair(alloc: Global, shape: Shape, rows: Rows) -> Result<Element, OpFault>
+        requires pair { IsPair shape rows }
+        requires order { IsAscending (from_words rows) }
+        ensures canonical { IfOk result (λ element. (element.shape ≡ shape) × IsCanonicalFor shape element.rows rows) }
+        ensures fewer { IfOk result (λ element. length element.rows ≤ length rows) }
+        ensures shorter { IfOk result (λ element. longest_of element.rows ≤ longest_of rows) }
+        ensures small { IfOk result (λ element. (length element.rows ≤ 8192) × (longest_of element.rows ≤ 1024)) }
+        ensures large { (count letters : ℕ) → IsErrOf result (op_fault.Large count letters) → IsLarge shape rows count letters }
+    {
+        let rows = merge_rows(alloc, shape, rows)?;
         let letters = longest_in(rows.as_slice());
         if rows.len() > MOST_ROWS || letters > MOST_LETTERS {
-            return Err(RowsFault::Large {
+            return Err(OpFault::Large {
                 rows: rows.len(),
                 letters,
             });

@@ -5,14 +5,15 @@
 //!
 //! - `row`: rows and lists of rows
 //! - `element`: elements, made from rows
-//! - `basis`: bases in ascending order
+//! - `basis`: bases in ascending order, and the test whether words are a basis
 //! - `fault`: why rows are no element, and why elements have no product
 //! - `reduce`: the reduced rows of a pair, and of a table
 //! - `moves`: how rows move words
-//! - `headed`: the search for the word or row above a word
-//! - `pair`: the test whether rows are a pair
+//! - `headed`: items in order of a word each, and the searches for those above and below a word
+//! - `pair`: the test whether rows are a pair, and the rows of a pair in order
 //! - `tiling`: the test whether sorted words are a basis
-//! - `side`: the `from` words or the `to` words of rows, and sorting by them
+//! - `side`: the `from` words or the `to` words of rows
+//! - `sorted`: items sorted by a word each
 //! - `verdict`: whether elements are conjugate
 #![tactic(auto)]
 
@@ -25,13 +26,16 @@ mod pair;
 mod reduce;
 mod row;
 mod side;
+mod sorted;
 mod tiling;
 mod verdict;
 
-pub use basis::Basis;
+pub use basis::{Basis, is_basis};
 pub use element::{Element, copy_rows};
 pub use fault::{OpFault, RowsFault};
-pub use moves::place_of;
+pub use headed::first_under;
+pub use moves::{are_same_rows, place_of};
+pub use pair::sort_pair;
 pub use reduce::{merge_table, reduce_rows};
 pub use row::{Row, Rows};
 pub use side::Side;

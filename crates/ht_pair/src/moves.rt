@@ -8,6 +8,7 @@ ghost use Rattle.ht_pair.specs.Pairs.{from_words, identity};
 ghost use Rattle.ht_pair.specs.Actions.{Moves};
 
 use crate::headed::place_above;
+use crate::side::Side;
 use crate::{Row, Rows};
 use ht_word::{NoMemory, Shape, Word};
 use std::alloc::Global;
@@ -25,8 +26,8 @@ pub(crate) fn identity_rows(alloc: Global, shape: Shape) -> Result<Rows, NoMemor
     Ok(rows)
 }
 
-// Whether the rows are the same, in the same order. One pass over them.
-pub(crate) fn are_same_rows(rows: &[Row], other: &[Row]) -> bool
+/// Whether the rows are the same, in the same order. No memory; one pass over them.
+pub fn are_same_rows(rows: &[Row], other: &[Row]) -> bool
     ensures { IsTrue result ↔ (rows.now ≡ other.now) }
 {
     if rows.len() != other.len() {
@@ -47,7 +48,7 @@ pub fn place_of(rows: &[Row], word: &Word) -> Option<usize>
     requires ascending { IsAscending (from_words rows.now) }
     ensures { MatchOption result ((v : Word) → ¬ Moves rows.now word.now v) (λ place. (row : Row) × (slice_get rows.now place ≡ Some row) × IsUnder word.now row.from) }
 {
-    place_above(rows, word)
+    place_above(Side::From, rows, word)
 }
 
 // The word that the row carries the word to: the row's `to` word with the letters that are left.

@@ -1,10 +1,11 @@
-//! The test whether rows are a pair.
+//! The test whether rows are a pair, and the rows of a pair in order.
 ghost use Rattle.std.specs.Prelude.{◌↔◌, IsTrue, IfOk, MatchOption, MatchResult};
-ghost use Rattle.ht_pair.specs.Sides.{IsSortedSide, IsSortedPair};
+ghost use Rattle.ht_pair.specs.Pairs.{IsPair};
+ghost use Rattle.ht_pair.specs.Sides.{IsSortedPair};
 ghost use Rattle.ht_pair.specs.RowsFaults.{IsRowOf, AreRowsOf, IsFirstForeign, IsRowsFault};
 
-use crate::side::{Side, sort_rows};
-use crate::tiling::is_ascending_basis;
+use crate::side::Side;
+use crate::sorted::{sort, sort_and_test};
 use crate::{Row, Rows, RowsFault};
 use ht_word::{NoMemory, Shape};
 
@@ -27,16 +28,6 @@ fn first_foreign(shape: Shape, rows: &[Row]) -> Option<usize>
     None
 }
 
-// The rows in order of one side, and whether that side is a basis. O(N log N) comparisons of words.
-fn sorted_side(shape: Shape, side: Side, rows: Rows) -> Result<(Rows, bool), NoMemory>
-    requires { AreRowsOf shape rows }
-    ensures { IfOk result (λ sorted. IsSortedSide shape side rows sorted.0 sorted.1) }
-{
-    let sorted = sort_rows(side, rows)?;
-    let is_basis = is_ascending_basis(shape, side, sorted.as_slice());
-    Ok((sorted, is_basis))
-}
-
 // The rows in order of `from`, where they are a pair. O(N log N) comparisons of words.
 pub(crate) fn sorted_pair(shape: Shape, rows: Rows) -> Result<Rows, RowsFault>
     ensures { MatchResult result (IsSortedPair shape rows) (IsRowsFault shape rows) }
@@ -44,8 +35,8 @@ pub(crate) fn sorted_pair(shape: Shape, rows: Rows) -> Result<Rows, RowsFault>
     if let Some(place) = first_foreign(shape, rows.as_slice()) {
         return Err(RowsFault::Foreign(place));
     }
-    let (by_to, to_is_basis) = sorted_side(shape, Side::To, rows)?;
-    let (by_from, from_is_basis) = sorted_side(shape, Side::From, by_to)?;
+    let (by_to, to_is_basis) = sort_and_test(shape, Side::To, rows)?;
+    let (by_from, from_is_basis) = sort_and_test(shape, Side::From, by_to)?;
     if !from_is_basis {
         return Err(RowsFault::FromNotBasis);
     }
@@ -53,4 +44,12 @@ pub(crate) fn sorted_pair(shape: Shape, rows: Rows) -> Result<Rows, RowsFault>
         return Err(RowsFault::ToNotBasis);
     }
     Ok(by_from)
+}
+
+/// The rows of a pair in ascending order of `from`. Sorts N rows by O(N log N) comparisons of words.
+pub fn sort_pair(shape: Shape, rows: Rows) -> Result<Rows, NoMemory>
+    requires { IsPair shape rows }
+    ensures { IfOk result (IsSortedPair shape rows) }
+{
+    sort(Side::From, rows)
 }

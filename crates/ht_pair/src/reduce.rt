@@ -7,7 +7,7 @@ ghost use Rattle.ht_pair.specs.Actions.{child_row, IsCanonicalFor};
 ghost use Rattle.ht_pair.specs.Merges.{child_rows, ClosesCaret, IsAdded, IsReducedOf};
 ghost use Rattle.ht_pair.specs.Tables.{IsTable, IsMergedTable};
 
-use crate::side::{Side, sort_rows};
+use crate::pair::sort_pair;
 use crate::{Row, Rows};
 use ht_word::{NoMemory, Shape, Word};
 use std::alloc::Global;
@@ -20,7 +20,7 @@ pub fn reduce_rows(alloc: Global, shape: Shape, rows: Rows) -> Result<Rows, NoMe
     ensures fewer { IfOk result (λ reduced. length reduced ≤ length rows) }
     ensures shorter { IfOk result (λ reduced. longest_of reduced ≤ longest_of rows) }
 {
-    let sorted = sort_rows(Side::From, rows)?;
+    let sorted = sort_pair(shape, rows)?;
     merge_rows(alloc, shape, sorted)
 }
 

@@ -1,10 +1,9 @@
 //! One side of rows: their `from` words or their `to` words.
-ghost use Rattle.std.specs.Prelude.{◌≡◌, IfOk, IsPermutation, IsSorted};
-ghost use Rattle.ht_pair.specs.Sides.{word_on, row_cmp};
+ghost use Rattle.std.specs.Prelude.{◌≡◌};
+ghost use Rattle.ht_pair.specs.Sides.{word_on};
 
-use crate::{Row, Rows};
-use ht_word::{NoMemory, Word};
-use std::cmp::Ordering;
+use crate::Row;
+use ht_word::Word;
 
 /// The `from` words of rows, or their `to` words.
 #[derive(Clone, Copy, Debug, PartialEq, Eq)]
@@ -23,18 +22,4 @@ impl Side {
             Side::To => &row.to,
         }
     }
-}
-
-// The rows in order of their words on one side.
-pub(crate) fn sort_rows(side: Side, rows: Rows) -> Result<Rows, NoMemory>
-    ensures permutation { IfOk result (λ sorted. IsPermutation rows sorted) }
-    ensures sorted { IfOk result (IsSorted (row_cmp side)) }
-{
-    let mut items = rows.into_vec();
-    items.sort_by(
-        |a: &Row, b: &Row| -> Ordering
-            ensures { result ≡ row_cmp side a.now b.now }
-        { side.word(a).order(side.word(b)) },
-    )?;
-    Ok(Rows::from_vec(items))
 }

@@ -1,12 +1,10 @@
 //! The test whether sorted words are a basis: each cone begins where the one before ends.
-ghost use Rattle.std.specs.Prelude.{◌≡◌, ◌↔◌, IsTrue, All, suc};
+ghost use Rattle.std.specs.Prelude.{◌≡◌, ◌↔◌, IsTrue, All, map, suc};
 ghost use Rattle.ht_word.specs.Words.{root_word, IsWordOf, IsAscending};
 ghost use Rattle.ht_pair.specs.Bases.{IsBasis};
-ghost use Rattle.ht_pair.specs.Sides.{words_on};
 ghost use Rattle.ht_pair.specs.Tilings.{IsStep, NextPath, Follows, IsTiling};
 
-use crate::Row;
-use crate::side::Side;
+use crate::headed::Heads;
 use ht_word::{Shape, Word};
 
 // Whether all letters are this one.
@@ -74,19 +72,19 @@ fn is_last(shape: Shape, word: &Word) -> bool
     )
 }
 
-// Whether the words on one side follow one another, from the first cone to the last.
-fn is_tiling(shape: Shape, side: Side, rows: &[Row]) -> bool
-    ensures { IsTrue result ↔ IsTiling shape (words_on side rows.now) }
+// Whether the items' words follow one another, from the first cone to the last.
+fn is_tiling<T, K: Heads<T>>(shape: Shape, by: K, items: &[T]) -> bool
+    ensures { IsTrue result ↔ IsTiling shape (map (K.head by) items.now) }
 {
-    let Some((first, rest)) = rows.split_first() else {
+    let Some((first, rest)) = items.split_first() else {
         return false;
     };
-    let mut word = side.word(first);
+    let mut word = by.head(first);
     if !is_first(shape, word) {
         return false;
     }
-    for row in rest {
-        let next = side.word(row);
+    for item in rest {
+        let next = by.head(item);
         if !follows(shape, word, next) {
             return false;
         }
@@ -95,11 +93,10 @@ fn is_tiling(shape: Shape, side: Side, rows: &[Row]) -> bool
     is_last(shape, word)
 }
 
-// Whether the words on one side are a basis in ascending order. One pass over neighbours, no
-// memory.
-pub(crate) fn is_ascending_basis(shape: Shape, side: Side, rows: &[Row]) -> bool
-    requires { All (IsWordOf shape) (words_on side rows.now) }
-    ensures { IsTrue result ↔ (IsBasis shape (words_on side rows.now) × IsAscending (words_on side rows.now)) }
+// Whether the items' words are a basis in ascending order. One pass over neighbours, no memory.
+pub(crate) fn is_ascending_basis<T, K: Heads<T>>(shape: Shape, by: K, items: &[T]) -> bool
+    requires { All (IsWordOf shape) (map (K.head by) items.now) }
+    ensures { IsTrue result ↔ (IsBasis shape (map (K.head by) items.now) × IsAscending (map (K.head by) items.now)) }
 {
-    is_tiling(shape, side, rows)
+    is_tiling(shape, by, items)
 }

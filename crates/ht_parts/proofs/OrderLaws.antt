@@ -1,13 +1,9 @@
 -- The order of an element is the least common multiple of the lengths of its cycles, where all words of a semi-normal basis are cycle words; else no
 -- power is the identity.
 use Rattle.std.proofs.Common.{◌≡◌, ℕ, ◌+◌, ◌*◌, ◌/◌, ◌%◌, ◌⊎◌, inl, inr, List, [], ◌∷◌, ◌++◌, take, Some, slice_get, sym, ap, ◌∙◌, subst, arith, All, Contains, ℤ, pos, ◌+ℤ◌}
-use Rattle.std.proofs.lemmas.Bool.{cases_eq}
 use Rattle.std.proofs.lemmas.List.{take_more}
 use Rattle.std.proofs.lemmas.Option.{slice_get_within, get_or_from_slice_get}
 use Rattle.std.proofs.lemmas.List.Elements.{All-contains, All-nil, Contains-append_cases, Contains-append_left, Contains-append_right}
-use Rattle.std.proofs.lemmas.Nat.{div-add-mod'}
-use Rattle.std.proofs.lemmas.Nat.Gcd.{dvd_of_mod-eq-zero}
-use Rattle.std.proofs.Math.Nat.{mod-lt, div-mul_cancel}
 use Rattle.std.specs.Int.{◌∣◌}
 use Rattle.ht_word.specs.Words.{◌·◌, root_word, IsLetter, IsWordOf}
 use Rattle.ht_word.specs.declared.shape.Shape.{Shape}
@@ -18,31 +14,19 @@ use Rattle.ht_num.specs.Numbers.{IsLcm, IsWide}
 use Rattle.ht_num.proofs.NumberLaws.{once_least, least_multiple_none, least_multiple_same, lcm_joins, lcm_exists, wide_multiple}
 use Rattle.ht_pair.specs.Bases.{longest, IsBasis}
 use Rattle.ht_pair.specs.Kinds.{IsCycle, IsCycleWord}
-use Rattle.ht_pair.specs.Orders.{FixesRoots, IsOrder, HasInfiniteOrder, IsPeriodicOrder}
+use Rattle.ht_pair.specs.Orders.{IsOrder, HasInfiniteOrder, IsPeriodicOrder}
 use Rattle.ht_pair.specs.Pairs.{IsPair}
 use Rattle.ht_pair.specs.SemiNormal.{IsSemiNormal}
 use Rattle.ht_pair.specs.Steps.{Carries}
 use Rattle.ht_pair.specs.declared.row.Row.{Row}
 use Rattle.ht_pair.proofs.BasisLaws.{basis_holds, basis_word}
-use Rattle.ht_pair.proofs.CarriesLaws.{carries_single, carries_from_steps, carries_extends, carries_rest}
+use Rattle.ht_pair.proofs.CarriesLaws.{carries_single, carries_from_steps, carries_extends}
 use Rattle.ht_pair.proofs.PrefixMapLaws.{long_word, length-long}
 use Rattle.ht_pair.proofs.StepsLaws.{steps_map}
-use Rattle.ht_types.proofs.PeriodicLaws.{carries_round, periodic_word}
+use Rattle.ht_pair.proofs.IdentityLaws.{fixed_word}
+use Rattle.ht_types.proofs.PeriodicLaws.{periodic_word, length_divides, multiple_carries}
 
 -- ---- powers that carry words to themselves
-
--- the length of a cycle divides each number of steps that leads back
-pub length_divides : (shape : Shape) (p : List Row) → IsPair shape p → (x : Word) (m k : ℕ) → IsCycle shape p x m → Carries shape p (pos k) x x → m ∣ k
-length_divides shape p pair x m k cycle carries = elim (cases_eq (k % m) 0) [
-  | inl none ↦ dvd_of_mod-eq-zero m none
-  | inr some ↦
-      let sum : pos (k / m * m) +ℤ pos (k % m) ≡ pos k = ap pos (div-add-mod' k m) in
-      absurd (cycle.least (k % m) (omega (arith, some)) (mod-lt k cycle.positive) (carries_rest shape p pair (pos (k / m * m)) (pos (k % m)) (pos k) sum x x x (carries_round shape p pair m x cycle.holds (k / m)) carries))
-]
-
--- and each multiple of it does
-multiple_carries : (shape : Shape) (p : List Row) → IsPair shape p → (x : Word) (m k : ℕ) → IsCycle shape p x m → m ∣ k → Carries shape p (pos k) x x
-multiple_carries shape p pair x m k cycle divides = subst (λ i. Carries shape p (pos i) x x) (div-mul_cancel m divides) (carries_round shape p pair m x cycle.holds (k / m))
 
 -- a power that carries each word of a basis to itself carries every word to itself: with letters behind it, the word is under one of the basis
 pub carried_over_basis : (shape : Shape) (p : List Row) → IsPair shape p → (X : List Word) → IsBasis shape X → (k : ℤ) → ((x : Word) → Contains X x → Carries shape p k x x) → (u : Word) → IsWordOf shape u → Carries shape p k u u
@@ -58,10 +42,6 @@ carried_over_basis shape p pair X basis k each u h = record {
       after_cancel_right w (u · z) y (carries_single shape p pair k ((u · z) · y) (w · y) ((u · z) · y) there back);
 }
 
--- the identity carries each word to itself
-identity_carries : (shape : Shape) (p : List Row) (k : ℕ) → FixesRoots shape p k → (u : Word) → IsWordOf shape u → Carries shape p (pos k) u u
-identity_carries shape p k fixes u h = carries_extends shape p (pos k) (root_word u.root) (root_word u.root) u.letters h.letters (fixes u.root h.root_low h.root_high)
-
 -- ---- orders
 
 -- where all words are cycle words, the least common multiple of their lengths is the order
@@ -69,7 +49,7 @@ pub order_from_lengths : (shape : Shape) (p : List Row) → IsPair shape p → (
 order_from_lengths shape p pair X basis cycles k least = record {
   positive = least.positive;
   holds = λ root low high. carried_over_basis shape p pair X basis (pos k) carries (root_word root) (record { root_low = low; root_high = high; letters = All-nil (IsLetter shape) });
-  least = λ j low less fixes. least.least j low less (λ m (x, c, cycle). length_divides shape p pair x m j cycle (identity_carries shape p j fixes x (basis_word shape X basis x c)));
+  least = λ j low less fixes. least.least j low less (λ m (x, c, cycle). length_divides shape p pair x m j cycle (fixed_word shape p j fixes x (basis_word shape X basis x c)));
 }
   where
     carries : (x : Word) → Contains X x → Carries shape p (pos k) x x
@@ -78,7 +58,7 @@ order_from_lengths shape p pair X basis cycles k least = record {
 -- where some word is none, no power is the identity
 pub order_infinite : (shape : Shape) (p : List Row) → IsPair shape p → (X : List Word) → IsSemiNormal shape p X → ¬ All (IsCycleWord shape p) X → HasInfiniteOrder shape p
 order_infinite shape p pair X semi other k low fixes =
-    other (All-from_contains (IsCycleWord shape p) X (λ x c. periodic_word shape p pair X semi k x x low c (under_refl x) (identity_carries shape p k fixes x (basis_word shape X semi.basis x c))))
+    other (All-from_contains (IsCycleWord shape p) X (λ x c. periodic_word shape p pair X semi k x x low c (under_refl x) (fixed_word shape p k fixes x (basis_word shape X semi.basis x c))))
 
 -- ---- least common multiples, word by word
 

@@ -1,15 +1,15 @@
 -- The two parts of an element: their words are listed, they are told by alike pairs, and the first large one is that of the two that are made.
-use Rattle.std.proofs.Common.{◌≡◌, ℕ, ◌⊎◌, inl, inr, List, Result, Err, sym, ap, ◌∙◌, subst, arith, Contains}
+use Rattle.std.proofs.Common.{◌≡◌, ℕ, ◌≤◌, ◌⊎◌, inl, inr, List, length, Result, Err, sym, ap, ◌∙◌, subst, arith, Contains}
 use Rattle.std.specs.Result.{IsErrOf}
 use Rattle.ht_word.specs.Words.{◌·◌, IsAscending}
 use Rattle.ht_word.specs.declared.shape.Shape.{Shape}
 use Rattle.ht_word.specs.declared.word.Word.{Word}
 use Rattle.ht_word.proofs.WordLaws.{after_cancel_right, ones, under_after}
-use Rattle.ht_pair.specs.Actions.{Moves, Alike}
+use Rattle.ht_pair.specs.Actions.{Moves, Alike, IsCanonicalFor}
 use Rattle.ht_pair.specs.Bases.{IsBasis}
 use Rattle.ht_pair.specs.Elements.{ElementValue, IsElement}
 use Rattle.ht_pair.specs.Kinds.{IsCycleWord}
-use Rattle.ht_pair.specs.Pairs.{IsPair, from_words}
+use Rattle.ht_pair.specs.Pairs.{IsPair, from_words, longest_of}
 use Rattle.ht_pair.specs.Parts.{MovesOnly, HasParts}
 use Rattle.ht_pair.specs.SemiNormal.{IsSemiNormal}
 use Rattle.ht_pair.specs.Sizes.{IsLarge}
@@ -133,6 +133,12 @@ shape_read shape given element e same = e ∙ ap (λ (t : ElementValue). t.shape
 pub fault_passed : {A : Type 0} (result : Result A OpFault) (passed came fault : OpFault) → result ≡ Err passed → passed ≡ came → IsErrOf result fault → came ≡ fault
 fault_passed {A} result passed came fault is same h = let e : ◌≡◌ {A = Result A OpFault} (Err passed) (Err fault) = sym is ∙ h in cc
 
+-- the rows of a part are in the order of the words that they are made from
+pub part_order : (p : List Row) (X : List Word) (P Q : Word → Type 0) (U : List Word) (rows : List Row) → ArePartRows p X P Q U rows → IsAscending U → IsAscending (from_words rows)
+part_order p X P Q U rows h ascending = subst IsAscending (sym h.from) ascending
+
 -- the element that is made
-pub element_made : (shape given : Shape) (rows : List Row) (element : ElementValue) → given ≡ shape → (element.shape ≡ given) × IsElement given element.rows × Alike given element.rows rows → IsElementOf shape rows element.rows
-element_made shape given rows element same made = subst (λ (s : Shape). IsElementOf s rows element.rows) same (record { element = made.1; alike = made.2 })
+pub element_made : (shape given : Shape) (rows : List Row) (element : ElementValue) → given ≡ shape → (element.shape ≡ given) × IsCanonicalFor given element.rows rows → (length element.rows ≤ 8192) × (longest_of element.rows ≤ 1024)
+    → IsElementOf shape rows element.rows
+element_made shape given rows element same made small =
+    subst (λ (s : Shape). IsElementOf s rows element.rows) same (record { element = record { canonical = made.1.form; few_rows = small.0; short_words = small.1 }; alike = made.1.alike })

@@ -3,26 +3,23 @@ ghost use Rattle.std.specs.Prelude.{◌≡◌, ◌<◌, ℕ, Some, Contains, len
 ghost use Rattle.ht_word.specs.declared.word.Word.{Word};
 ghost use Rattle.ht_pair.specs.declared.row.Row.{Row};
 ghost use Rattle.ht_pair.specs.declared.fault.OpFault.TheVariants as op_fault;
-ghost use Rattle.ht_pair.specs.Actions.{Moves, Alike};
-ghost use Rattle.ht_pair.specs.Elements.{IsElement};
+ghost use Rattle.ht_pair.specs.Actions.{Moves};
 ghost use Rattle.ht_pair.specs.Kinds.{IsCycleWord};
-ghost use Rattle.ht_pair.specs.Pairs.{IsPair, from_words};
+ghost use Rattle.ht_pair.specs.Pairs.{from_words};
 ghost use Rattle.ht_pair.specs.Parts.{HasParts};
-ghost use Rattle.ht_pair.specs.Sizes.{IsLarge};
 ghost use Rattle.ht_parts.specs.LargeParts.{IsLargePart};
 ghost use Rattle.ht_parts.specs.PartRows.{IsOther, MovesWithin, ArePartRows};
 
 use crate::orders::is_cycle;
-use ht_ops::op_fault;
 use ht_pair::{Element, OpFault, Row, Rows};
 use ht_types::Typed;
-use ht_word::{NoMemory, Shape, Word};
+use ht_word::{NoMemory, Word};
 use std::alloc::Global;
 
 /// The element on its periodic part, with the identity elsewhere, and then the element on its
 /// infinite part, with the identity elsewhere. `Large` comes where the first is larger than an
 /// element may be, else where the second is. From N words and M rows of what one step carries: a
-/// binary search for each, and the sorting of both lists of rows.
+/// binary search for each, and one pass over the letters of both lists of rows, which come in order.
 pub fn parts(alloc: Global, t: &Typed) -> Result<(Element, Element), OpFault>
     ensures shapes { IfOk result (λ both. (both.0.shape ≡ t.now.element.shape) × (both.1.shape ≡ t.now.element.shape)) }
     ensures parts { IfOk result (λ both. HasParts t.now.element.shape t.now.element.rows t.now.quasi.basis.words both.0.rows both.1.rows) }
@@ -32,8 +29,8 @@ pub fn parts(alloc: Global, t: &Typed) -> Result<(Element, Element), OpFault>
     t.keeps_kinds();
     let periodic = periodic_rows(alloc, t)?;
     let infinite = infinite_rows(alloc, t)?;
-    let first = element_of(alloc, t.element().shape(), periodic)?;
-    let second = element_of(alloc, t.element().shape(), infinite)?;
+    let first = Element::of_pair(alloc, t.element().shape(), periodic)?;
+    let second = Element::of_pair(alloc, t.element().shape(), infinite)?;
     Ok((first, second))
 }
 
@@ -112,16 +109,4 @@ fn kept_row(alloc: Global, word: &Word) -> Result<Row, NoMemory>
         from: word.copy(alloc)?,
         to: word.copy(alloc)?,
     })
-}
-
-// The element of rows that are a pair.
-fn element_of(alloc: Global, shape: Shape, rows: Rows) -> Result<Element, OpFault>
-    requires { IsPair shape rows }
-    ensures element { IfOk result (λ element. (element.shape ≡ shape) × IsElement shape element.rows × Alike shape element.rows rows) }
-    ensures large { (count letters : ℕ) → IsErrOf result (op_fault.Large count letters) → IsLarge shape rows count letters }
-{
-    match Element::of_rows(alloc, shape, rows) {
-        Ok(element) => Ok(element),
-        Err(fault) => Err(op_fault(fault)),
-    }
 }

@@ -17,7 +17,7 @@ use Rattle.ht_pair.proofs.CarriesLaws.{carries_single, carries_extends, carries_
 use Rattle.ht_quasi.specs.declared.quasi.Class.{Class}
 use Rattle.ht_quasi.specs.declared.quasi.Class.TheVariants.{Splits, Joined}
 use Rattle.ht_quasi.specs.Quasis.{IsYOf, HasClass, AreClasses}
-use Rattle.ht_quasi.specs.Marks.{AreMarks, AreTold, told}
+use Rattle.ht_quasi.specs.Marks.{AreMarks, AreClassesBy, told}
 
 -- a word above a word of a prefix-free list and under the list is that word
 same_between : (X : List Word) (x w : Word) → IsPrefixFree X → Contains X x → IsUnder x w → IsUnderSome w X → x ≡ w
@@ -79,7 +79,7 @@ class_told shape p X y pair basis h x c true false from to = λ back. true≢fal
 class_told shape p X y pair basis h x c true true from to = (listed_stays shape p X y h x (from.0 refl), listed_comes shape p X y pair h x (to.0 refl))
 
 -- the classes told by the marks are those of the words
-pub classes_are : (shape : Shape) (X : List Word) (y : List Row) (stays comes : List Bool) (classes : List Class) → IsBasis shape X → AreMarks (from_words y) X stays → AreMarks (to_words y) X comes → length classes ≡ length stays → AreTold stays comes classes
+pub classes_are : (shape : Shape) (X : List Word) (y : List Row) (stays comes : List Bool) (classes : List Class) → IsBasis shape X → AreMarks (from_words y) X stays → AreMarks (to_words y) X comes → length classes ≡ length stays → AreClassesBy stays comes classes
     → (p : List Row) → IsPair shape p → IsYOf shape p X y → AreClasses shape p X classes
 classes_are shape X y stays comes classes basis from to many tells p pair h = record {
   as_many = many ∙ from.as_many;

@@ -25,8 +25,9 @@ pub record IsMarkedWord (X : List Word) (marks : List Bool) (u : Word) : Type 0 
 marked_later : (x u : Word) (X : List Word) (mark : Bool) (marks : List Bool) → IsMarkedWord X marks u → IsMarkedWord (x ∷ X) (mark ∷ marks) u
 marked_later x u X mark marks h = record { place = suc h.place; here = h.here; marked = h.marked }
 
-later : (A B : List Word) (u : Word) → IsUnderSome u B → IsUnderSome u (A ++ B)
-later A B u s = some_at (A ++ B) s.above u (Contains-append_right A B s.above s.listed) s.under
+-- what is under a list is under it behind other words
+pub under_later : (A B : List Word) (u : Word) → IsUnderSome u B → IsUnderSome u (A ++ B)
+under_later A B u s = some_at (A ++ B) s.above u (Contains-append_right A B s.above s.listed) s.under
 
 -- what is under X and is no marked word is under the words after the change
 pub under_expanded : (shape : Shape) (X : List Word) (marks : List Bool) (u : Word) → IsWordOf shape u → IsUnderSome u X → ¬ IsMarkedWord X marks u → IsUnderSome u (expanded_at shape X marks)
@@ -34,7 +35,7 @@ under_expanded shape [] marks u h s none = absurd (Contains-nil s.above s.listed
 under_expanded shape (x ∷ X) [] u h s none = s
 under_expanded shape (x ∷ X) (false ∷ marks) u h s none = elim (Contains-cons_cases x X s.above s.listed) [
   | inl e ↦ some_at (x ∷ expanded_at shape X marks) x u (Contains-here x (expanded_at shape X marks)) (subst (λ t. IsUnder u t) (sym e) s.under)
-  | inr c ↦ later (x ∷ []) (expanded_at shape X marks) u (under_expanded shape X marks u h (some_at X s.above u c s.under) (λ m. none (marked_later x u X false marks m)))
+  | inr c ↦ under_later (x ∷ []) (expanded_at shape X marks) u (under_expanded shape X marks u h (some_at X s.above u c s.under) (λ m. none (marked_later x u X false marks m)))
 ]
 under_expanded shape (x ∷ X) (true ∷ marks) u h s none = elim (Contains-cons_cases x X s.above s.listed) [
   | inl e ↦ (
@@ -43,7 +44,7 @@ under_expanded shape (x ∷ X) (true ∷ marks) u h s none = elim (Contains-cons
         | inl l ↦ (let t = child_above shape x u h under l in some_at (children shape x ++ expanded_at shape X marks) t.above u (Contains-append_left (children shape x) (expanded_at shape X marks) t.above t.listed) t.under)
         | inr l ↦ absurd (none (let same : u ≡ x = under_same under l in record { place = 0; here = subst (λ t. Some x ≡ Some t) (sym same) refl; marked = refl }))
       ])
-  | inr c ↦ later (children shape x) (expanded_at shape X marks) u (under_expanded shape X marks u h (some_at X s.above u c s.under) (λ m. none (marked_later x u X true marks m)))
+  | inr c ↦ under_later (children shape x) (expanded_at shape X marks) u (under_expanded shape X marks u h (some_at X s.above u c s.under) (λ m. none (marked_later x u X true marks m)))
 ]
 
 abbrev pub count_set : List Bool → ℕ

@@ -18,8 +18,8 @@ use Rattle.ht_pair.proofs.HeldBasisLaws.{held_expanded_at}
 use Rattle.ht_pair.proofs.Sequences.{length-each}
 use Rattle.ht_quasi.specs.declared.step.Step.{Step}
 use Rattle.ht_quasi.specs.declared.step.Step.TheVariants.{Splits, Next, Descends}
-use Rattle.ht_quasi.specs.Kept.{place_after, ArePlacesAfter, IsStepInside, AreAllInside, StaysAs, IsRightAt, HaveSteps, IsRenewed}
-use Rattle.ht_quasi.specs.Rounds.{HasStep, AreSteps}
+use Rattle.ht_quasi.specs.Kept.{place_after, ArePlacesAfter, IsStepInside, AreAllInside, StaysAs, IsRightAt, HaveRoundSteps, IsRenewed}
+use Rattle.ht_quasi.specs.Rounds.{HasRoundStep, AreRoundSteps}
 use Rattle.ht_quasi.proofs.RoundLaws.{something_at}
 use Rattle.ht_quasi.proofs.StepLaws.{same_at}
 
@@ -123,18 +123,18 @@ under_before shape (x ∷ X) (true ∷ marks) u s = elim (Contains-append_cases 
 -- ---- steps
 
 -- a step that stays is right after, too
-stays_right : (shape : Shape) (p : List Row) (X : List Word) (marks : List Bool) (places : List ℕ) (x : Word) (old new : Step) → length marks ≡ length X → ArePlacesAfter shape.n marks places → HasStep shape p X x old → StaysAs marks places old new
-    → HasStep shape p (expanded_at shape X marks) x new
-stays_right shape p X marks places x Splits new many after has stays = subst (HasStep shape p (expanded_at shape X marks) x) (sym stays) (splits_after has)
+stays_right : (shape : Shape) (p : List Row) (X : List Word) (marks : List Bool) (places : List ℕ) (x : Word) (old new : Step) → length marks ≡ length X → ArePlacesAfter shape.n marks places → HasRoundStep shape p X x old → StaysAs marks places old new
+    → HasRoundStep shape p (expanded_at shape X marks) x new
+stays_right shape p X marks places x Splits new many after has stays = subst (HasRoundStep shape p (expanded_at shape X marks) x) (sym stays) (splits_after has)
   where
     splits_after : SplitsIn shape p X x → SplitsIn shape p (expanded_at shape X marks) x
     splits_after s = unfold SplitsIn in λ c. s (record { to = c.to; carries = c.carries; under = under_before shape X marks c.to c.under })
-stays_right shape p X marks places x (Next place) new many after has stays = subst (HasStep shape p (expanded_at shape X marks) x) (sym stays.1) (record {
+stays_right shape p X marks places x (Next place) new many after has stays = subst (HasRoundStep shape p (expanded_at shape X marks) x) (sym stays.1) (record {
   to = has.to;
   here = ap (λ k. slice_get (expanded_at shape X marks) k) (after.each place (omega (arith, many, slice_get_within X place has.to has.here))) ∙ stays_at shape X marks place has.to has.here stays.0;
   carries = has.carries;
 })
-stays_right shape p X marks places x (Descends place) new many after has stays = subst (HasStep shape p (expanded_at shape X marks) x) (sym stays.1) (record {
+stays_right shape p X marks places x (Descends place) new many after has stays = subst (HasRoundStep shape p (expanded_at shape X marks) x) (sym stays.1) (record {
   above = has.above;
   rest = has.rest;
   here = ap (λ k. slice_get (expanded_at shape X marks) k) (after.each place (omega (arith, many, slice_get_within X place has.above has.here))) ∙ stays_at shape X marks place has.above has.here stays.0;
@@ -145,7 +145,7 @@ stays_right shape p X marks places x (Descends place) new many after has stays =
 -- the steps so far, where the old ones were those of a basis
 pub record AreRenewed (shape : Shape) (p : List Row) (old : List Step) (marks : List Bool) (X : List Word) (place : ℕ) (steps : List Step) : Type 0 where
   pub count : length steps ≡ place_after shape.n marks place
-  pub have : (before : List Word) → AreSteps shape p before old → X ≡ expanded_at shape before marks → HaveSteps shape p X (length steps) steps
+  pub have : (before : List Word) → AreRoundSteps shape p before old → X ≡ expanded_at shape before marks → HaveRoundSteps shape p X (length steps) steps
 
 pub none_renewed : (shape : Shape) (p : List Row) (old : List Step) (marks : List Bool) (X : List Word) (steps : List Step) → steps ≡ [] → AreRenewed shape p old marks X 0 steps
 none_renewed shape p old marks X steps e = subst (AreRenewed shape p old marks X 0) (sym e) (record { count = refl; have = λ before h is. record { many = refl; each = λ place x step here at. absurd (none place step at) } })
@@ -155,12 +155,12 @@ none_renewed shape p old marks X steps e = subst (AreRenewed shape p old marks X
 
 -- the step of a word that stays
 pub right_at : (shape : Shape) (p : List Row) (old : List Step) (marks : List Bool) (X : List Word) (places : List ℕ) (place : ℕ) (step kept : Step) (at : ℕ) → length marks ≡ length old → ArePlacesAfter shape.n marks places → slice_get old place ≡ Some step
-    → slice_get marks place ≡ Some false → at ≡ place_after shape.n marks place → StaysAs marks places step kept → (before : List Word) → AreSteps shape p before old → X ≡ expanded_at shape before marks → (x : Word) → slice_get X at ≡ Some x → HasStep shape p X x kept
+    → slice_get marks place ≡ Some false → at ≡ place_after shape.n marks place → StaysAs marks places step kept → (before : List Word) → AreRoundSteps shape p before old → X ≡ expanded_at shape before marks → (x : Word) → slice_get X at ≡ Some x → HasRoundStep shape p X x kept
 right_at shape p old marks X places place step kept at many after old_at unmarked at_is stays before h is x here =
     let y = something_at before place (omega (arith, h.many, slice_get_within old place step old_at)) in
     let stays_here = stays_at shape before marks place y.0 y.1 (unmarked_read marks place unmarked) in
     let same : y.0 ≡ x = same_at (expanded_at shape before marks) X (place_after shape.n marks place) y.0 x (sym is) stays_here (subst (λ k. slice_get X k ≡ Some x) at_is here) in
-    subst (λ (Y : List Word). HasStep shape p Y x kept) (sym is) (stays_right shape p before marks places x step kept (many ∙ h.many) after (subst (λ t. HasStep shape p before t step) same (h.each place y.0 step y.1 old_at)) stays)
+    subst (λ (Y : List Word). HasRoundStep shape p Y x kept) (sym is) (stays_right shape p before marks places x step kept (many ∙ h.many) after (subst (λ t. HasRoundStep shape p before t step) same (h.each place y.0 step y.1 old_at)) stays)
   where
     unmarked_read : (marks : List Bool) (place : ℕ) → slice_get marks place ≡ Some false → get_or marks place false ≡ false
     unmarked_read [] place e = absurd cc
@@ -169,7 +169,7 @@ right_at shape p old marks X places place step kept at many after old_at unmarke
 
 -- a marked word gives as many steps as it has children
 pub renewed_children : (shape : Shape) (p : List Row) (old : List Step) (marks : List Bool) (X : List Word) (place : ℕ) (steps new : List Step) → slice_get marks place ≡ Some true → AreRenewed shape p old marks X place steps
-    → (length new ≡ length steps + shape.n) × (HaveSteps shape p X (length steps) steps → HaveSteps shape p X (length new) new) → AreRenewed shape p old marks X (place + 1) new
+    → (length new ≡ length steps + shape.n) × (HaveRoundSteps shape p X (length steps) steps → HaveRoundSteps shape p X (length new) new) → AreRenewed shape p old marks X (place + 1) new
 renewed_children shape p old marks X place steps new marked r h = record {
   count = omega (arith, h.0, r.count, place_more shape.n marks place true marked);
   have = λ before g is. h.1 (r.have before g is);
@@ -178,7 +178,7 @@ renewed_children shape p old marks X place steps new marked r h = record {
 -- a word that stays gives one
 pub renewed_kept : (shape : Shape) (p : List Row) (old : List Step) (marks : List Bool) (X : List Word) (places given : List ℕ) (place : ℕ) (step : Step) (known : Option Step) (steps new : List Step) → length marks ≡ length old
     → ArePlacesAfter shape.n marks places → given ≡ places → slice_get old place ≡ Some step → slice_get marks place ≡ Some false → IfSome known (StaysAs marks given step) → AreRenewed shape p old marks X place steps
-    → (length new ≡ length steps + 1) × (IsRightAt shape p X known (length steps) → HaveSteps shape p X (length steps) steps → HaveSteps shape p X (length new) new) → AreRenewed shape p old marks X (place + 1) new
+    → (length new ≡ length steps + 1) × (IsRightAt shape p X known (length steps) → HaveRoundSteps shape p X (length steps) steps → HaveRoundSteps shape p X (length new) new) → AreRenewed shape p old marks X (place + 1) new
 renewed_kept shape p old marks X places given place step known steps new many after e old_at unmarked stays r h = record {
   count = omega (arith, h.0, r.count, place_more shape.n marks place false unmarked);
   have = λ before g is.
@@ -187,13 +187,13 @@ renewed_kept shape p old marks X places given place step known steps new many af
       right_at shape p old marks X places place step kept (length steps) many after old_at unmarked r.count s before g is x here) (r.have before g is);
 }
 
-step_inside : (shape : Shape) (p : List Row) (X : List Word) (x : Word) (step : Step) (count : ℕ) → count ≡ length X → HasStep shape p X x step → IsStepInside step count
+step_inside : (shape : Shape) (p : List Row) (X : List Word) (x : Word) (step : Step) (count : ℕ) → count ≡ length X → HasRoundStep shape p X x step → IsStepInside step count
 step_inside shape p X x Splits count e g = tt
 step_inside shape p X x (Next next) count e g = omega (arith, e, slice_get_within X next g.to g.here)
 step_inside shape p X x (Descends below) count e g = omega (arith, e, slice_get_within X below g.above g.here)
 
 -- the steps tell of places of the basis
-pub all_inside : (shape : Shape) (p : List Row) (X : List Word) (steps : List Step) (count : ℕ) → AreSteps shape p X steps → count ≡ length X → AreAllInside steps count
+pub all_inside : (shape : Shape) (p : List Row) (X : List Word) (steps : List Step) (count : ℕ) → AreRoundSteps shape p X steps → count ≡ length X → AreAllInside steps count
 all_inside shape p X steps count h e place step at =
     let x = something_at X place (omega (arith, h.many, slice_get_within steps place step at)) in
     step_inside shape p X x.0 step count e (h.each place x.0 step x.1 at)

@@ -23,7 +23,7 @@ use Rattle.ht_pair.proofs.CountLaws.{no_fewer_below}
 use Rattle.ht_pair.proofs.HeldBasisLaws.{held_expanded_at}
 use Rattle.ht_pair.proofs.LeastBasisSizes.{quasinormal_size}
 use Rattle.ht_pair.proofs.QuasinormalLaws.{quasinormal_exists}
-use Rattle.ht_quasi.specs.Rounds.{AreSteps}
+use Rattle.ht_quasi.specs.Rounds.{AreRoundSteps}
 use Rattle.ht_quasi.specs.declared.step.Step.{Step}
 use Rattle.ht_quasi.specs.Kept.{place_after, AreAllInside, IsRenewed}
 use Rattle.ht_quasi.specs.Walks.{AreBadPlaces}
@@ -126,18 +126,18 @@ not_enough shape p budget canonical q d e =
 -- ---- the rounds
 
 -- the basis on the way, with the steps of its words ahead and back
-pub record AreRounds (shape : Shape) (p q : List Row) (budget left : ℕ) (basis : BasisValue) (ahead behind : List Step) : Type 0 where
+pub record HasBothSteps (shape : Shape) (p q : List Row) (budget left : ℕ) (basis : BasisValue) (ahead behind : List Step) : Type 0 where
   pub way : IsOnTheWay shape p budget left basis
-  pub steps : AreSteps shape p basis.words ahead
-  pub back : AreSteps shape q basis.words behind
+  pub steps : AreRoundSteps shape p basis.words ahead
+  pub back : AreRoundSteps shape q basis.words behind
 
 -- there are few words on the way
-pub few_words : (shape : Shape) (p q : List Row) (budget left : ℕ) (basis : BasisValue) (ahead behind : List Step) (marks : List Bool) → budget ≤ 65536 → AreRounds shape p q budget left basis ahead behind → AreBadPlaces ahead behind marks → length marks < 2 ^ 32
+pub few_words : (shape : Shape) (p q : List Row) (budget left : ℕ) (basis : BasisValue) (ahead behind : List Step) (marks : List Bool) → budget ≤ 65536 → HasBothSteps shape p q budget left basis ahead behind → AreBadPlaces ahead behind marks → length marks < 2 ^ 32
 few_words shape p q budget left basis ahead behind marks l r bad =
     omega (arith, bad.many, r.steps.many, r.way.size, shape.roots_high, shape.letters_high, mul-le-mul_left {m = budget} {n = 65536} (shape.n - 1) l)
 
 -- as many words come after as are told
-pub words_after : (shape : Shape) (p q : List Row) (budget left : ℕ) (old new : BasisValue) (ahead behind : List Step) (marks given : List Bool) → AreRounds shape p q budget left old ahead behind → AreBadPlaces ahead behind marks → given ≡ marks
+pub words_after : (shape : Shape) (p q : List Row) (budget left : ℕ) (old new : BasisValue) (ahead behind : List Step) (marks given : List Bool) → HasBothSteps shape p q budget left old ahead behind → AreBadPlaces ahead behind marks → given ≡ marks
     → (new.shape ≡ old.shape) × (new.words ≡ expanded_at old.shape old.words given) → (new.shape ≡ shape) × (new.words ≡ expanded_at shape old.words marks) × (length new.words ≡ place_after shape.n marks (length marks))
 words_after shape p q budget left old new ahead behind marks given r bad e h =
     let words_are : new.words ≡ expanded_at shape old.words marks = h.1 ∙ ap (λ s. expanded_at s old.words given) r.way.shape_is ∙ ap (λ (t : List Bool). expanded_at shape old.words t) e in (
@@ -150,17 +150,17 @@ pub places_bad : (ahead behind given other : List Step) (marks : List Bool) → 
 places_bad ahead behind given other marks e f bad = subst₂ (λ (x y : List Step). AreBadPlaces x y marks) e f bad
 
 -- the marks of a round
-pub round_marks : (shape : Shape) (p q : List Row) (budget left : ℕ) (basis : BasisValue) (ahead behind : List Step) (marks : List Bool) → IsCanonical shape p → IsPower shape p (negsuc 0) q → AreRounds shape p q budget left basis ahead behind → AreBadPlaces ahead behind marks
+pub round_marks : (shape : Shape) (p q : List Row) (budget left : ℕ) (basis : BasisValue) (ahead behind : List Step) (marks : List Bool) → IsCanonical shape p → IsPower shape p (negsuc 0) q → HasBothSteps shape p q budget left basis ahead behind → AreBadPlaces ahead behind marks
     → AreBadMarks shape p basis.words marks
 round_marks shape p q budget left basis ahead behind marks canonical power r bad = bad_marks shape p q canonical.pair power basis.words ahead behind marks r.steps r.back bad
 
 -- the steps after a round
-pub renewed : (shape given : Shape) (p : List Row) (steps told : List Step) (marks set : List Bool) (before X : List Word) (new : List Step) → given ≡ shape → told ≡ steps → set ≡ marks → IsRenewed given p told set X new → AreSteps shape p before steps → X ≡ expanded_at shape before marks
-    → AreSteps shape p X new
+pub renewed : (shape given : Shape) (p : List Row) (steps told : List Step) (marks set : List Bool) (before X : List Word) (new : List Step) → given ≡ shape → told ≡ steps → set ≡ marks → IsRenewed given p told set X new → AreRoundSteps shape p before steps → X ≡ expanded_at shape before marks
+    → AreRoundSteps shape p X new
 renewed shape given p steps told marks set before X new e f g h old is =
-    subst (λ (s : Shape). AreSteps s p X new) e (h before (subst (λ (s : Shape). AreSteps s p before told) (sym e) (subst (AreSteps shape p before) (sym f) old))
+    subst (λ (s : Shape). AreRoundSteps s p X new) e (h before (subst (λ (s : Shape). AreRoundSteps s p before told) (sym e) (subst (AreRoundSteps shape p before) (sym f) old))
     (is ∙ ap (λ (m : List Bool). expanded_at shape before m) (sym g) ∙ ap (λ (s : Shape). expanded_at s before set) (sym e)))
 
 -- they tell of places of the basis
-pub told_inside : (shape : Shape) (p : List Row) (X : List Word) (steps told : List Step) (marks set : List Bool) → told ≡ steps → set ≡ marks → length marks ≡ length X → AreSteps shape p X steps → AreAllInside told (length set)
-told_inside shape p X steps told marks set e f many h = all_inside shape p X told (length set) (subst (AreSteps shape p X) (sym e) h) (ap (λ (m : List Bool). length m) f ∙ many)
+pub told_inside : (shape : Shape) (p : List Row) (X : List Word) (steps told : List Step) (marks set : List Bool) → told ≡ steps → set ≡ marks → length marks ≡ length X → AreRoundSteps shape p X steps → AreAllInside told (length set)
+told_inside shape p X steps told marks set e f many h = all_inside shape p X told (length set) (subst (AreRoundSteps shape p X) (sym e) h) (ap (λ (m : List Bool). length m) f ∙ many)

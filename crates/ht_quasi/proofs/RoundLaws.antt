@@ -15,8 +15,8 @@ use Rattle.ht_pair.proofs.BasisLaws.{prefix_free_same, some_at}
 use Rattle.ht_pair.proofs.CarriesLaws.{carries_single, carries_back}
 use Rattle.ht_quasi.specs.declared.step.Step.{Step}
 use Rattle.ht_quasi.specs.declared.step.Step.TheVariants.{Splits, Next, Descends}
-use Rattle.ht_quasi.specs.Rounds.{GoesTo, GoesBelow, HasStep, AreSteps, IsMarked}
-use Rattle.ht_quasi.specs.Walks.{AreInside, LeadsIn, FollowsIn, AreBadPlaces}
+use Rattle.ht_quasi.specs.Rounds.{GoesTo, GoesBelow, HasRoundStep, AreRoundSteps, IsMarked}
+use Rattle.ht_quasi.specs.Walks.{StayInside, SplitsAfter, FollowsIn, AreBadPlaces}
 use Rattle.ht_quasi.proofs.ChainLaws.{leads_within}
 use Rattle.ht_quasi.proofs.MirrorLaws.{inverse_mirrors, under_to, under_from}
 use Rattle.ht_quasi.proofs.StepLaws.{listed_at, same_at}
@@ -70,24 +70,24 @@ unfolding SplitsIn
 below_no_split shape p X x place g s = s (record { to = g.above · g.rest; carries = g.carries; under = some_at X g.above (g.above · g.rest) (listed_at X place g.above g.here) (under_after g.above g.rest) })
 
 -- a word that splits has that step
-split_step : (shape : Shape) (p : List Row) (X : List Word) (steps : List Step) → AreSteps shape p X steps → (place : ℕ) (x : Word) → slice_get X place ≡ Some x → SplitsIn shape p X x → slice_get steps place ≡ Some Splits
+split_step : (shape : Shape) (p : List Row) (X : List Word) (steps : List Step) → AreRoundSteps shape p X steps → (place : ℕ) (x : Word) → slice_get X place ≡ Some x → SplitsIn shape p X x → slice_get steps place ≡ Some Splits
 split_step shape p X steps h place x here s =
     let at = something_at steps place (omega (arith, h.many, slice_get_within X place x here)) in
     by at.0 at.1 (h.each place x at.0 here at.1)
   where
-    by : (step : Step) → slice_get steps place ≡ Some step → HasStep shape p X x step → slice_get steps place ≡ Some Splits
+    by : (step : Step) → slice_get steps place ≡ Some step → HasRoundStep shape p X x step → slice_get steps place ≡ Some Splits
     by Splits at g = at
     by (Next next) at g = absurd (next_no_split shape p X x next g s)
     by (Descends below) at g = absurd (below_no_split shape p X x below g s)
 
 -- a word that is carried to a word of X goes to it
-exact_step : (shape : Shape) (p : List Row) → IsPair shape p → (X : List Word) (steps : List Step) → AreSteps shape p X steps → (place : ℕ) (x y : Word) → slice_get X place ≡ Some x → Contains X y → Carries shape p (pos 1) x y
+exact_step : (shape : Shape) (p : List Row) → IsPair shape p → (X : List Word) (steps : List Step) → AreRoundSteps shape p X steps → (place : ℕ) (x y : Word) → slice_get X place ≡ Some x → Contains X y → Carries shape p (pos 1) x y
     → (next : ℕ) × (slice_get steps place ≡ Some (Next next)) × (slice_get X next ≡ Some y)
 exact_step shape p pair X steps h place x y here c carries =
     let at = something_at steps place (omega (arith, h.many, slice_get_within X place x here)) in
     by at.0 at.1 (h.each place x at.0 here at.1)
   where
-    by : (step : Step) → slice_get steps place ≡ Some step → HasStep shape p X x step → (next : ℕ) × (slice_get steps place ≡ Some (Next next)) × (slice_get X next ≡ Some y)
+    by : (step : Step) → slice_get steps place ≡ Some step → HasRoundStep shape p X x step → (next : ℕ) × (slice_get steps place ≡ Some (Next next)) × (slice_get X next ≡ Some y)
     by Splits at g = absurd (splits_not g)
       where
         splits_not : SplitsIn shape p X x → ⊥
@@ -101,23 +101,23 @@ exact_step shape p pair X steps h place x y here c carries =
 -- ---- walks and chains
 
 -- a walk to a split is a chain to a word that splits
-leads_words : (shape : Shape) (p : List Row) (X : List Word) (steps : List Step) → AreSteps shape p X steps → (k place : ℕ) (x : Word) → slice_get X place ≡ Some x → LeadsIn steps k place → LeadsToSplit shape p X k x
-unfolding LeadsIn LeadsToSplit
+leads_words : (shape : Shape) (p : List Row) (X : List Word) (steps : List Step) → AreRoundSteps shape p X steps → (k place : ℕ) (x : Word) → slice_get X place ≡ Some x → SplitsAfter steps k place → LeadsToSplit shape p X k x
+unfolding SplitsAfter LeadsToSplit
 leads_words shape p X steps h zero place x here l = h.each place x Splits here l
 leads_words shape p X steps h (suc k) place x here l =
     let g = h.each place x (Next l.0) here l.1 in
     (g.to, listed_at X l.0 g.to g.here, g.carries, leads_words shape p X steps h k l.0 g.to g.here l.2)
 
 -- and the other way round
-leads_places : (shape : Shape) (p : List Row) → IsPair shape p → (X : List Word) (steps : List Step) → AreSteps shape p X steps → (k place : ℕ) (x : Word) → slice_get X place ≡ Some x → LeadsToSplit shape p X k x → LeadsIn steps k place
-unfolding LeadsIn LeadsToSplit
+leads_places : (shape : Shape) (p : List Row) → IsPair shape p → (X : List Word) (steps : List Step) → AreRoundSteps shape p X steps → (k place : ℕ) (x : Word) → slice_get X place ≡ Some x → LeadsToSplit shape p X k x → SplitsAfter steps k place
+unfolding SplitsAfter LeadsToSplit
 leads_places shape p pair X steps h zero place x here l = split_step shape p X steps h place x here l
 leads_places shape p pair X steps h (suc k) place x here l =
     let n = exact_step shape p pair X steps h place x l.0 here l.1 l.2 in
     (n.0, n.1, leads_places shape p pair X steps h k n.0 l.0 n.2 l.3)
 
 -- a walk from a joined word is a chain from it
-comes_words : (shape : Shape) (p : List Row) → IsPair shape p → (X : List Word) (steps : List Step) → AreSteps shape p X steps → (start : ℕ) → ((y : Word) → slice_get X start ≡ Some y → IsJoined shape p X y)
+comes_words : (shape : Shape) (p : List Row) → IsPair shape p → (X : List Word) (steps : List Step) → AreRoundSteps shape p X steps → (start : ℕ) → ((y : Word) → slice_get X start ≡ Some y → IsJoined shape p X y)
     → (k place : ℕ) (x : Word) → slice_get X place ≡ Some x → FollowsIn steps k start place → ComesFromJoined shape p X k x
 unfolding FollowsIn ComesFromJoined
 comes_words shape p pair X steps h start joined zero place x here f = joined x (subst (λ t. slice_get X t ≡ Some x) (sym f) here)
@@ -130,14 +130,14 @@ comes_words shape p pair X steps h start joined (suc k) place x here f =
 -- ---- the marks
 
 -- next places are places
-pub inside_steps : (shape : Shape) (p : List Row) (X : List Word) (steps : List Step) → AreSteps shape p X steps → AreInside steps
+pub inside_steps : (shape : Shape) (p : List Row) (X : List Word) (steps : List Step) → AreRoundSteps shape p X steps → StayInside steps
 inside_steps shape p X steps h place next at =
     let x = something_at X place (omega (arith, h.many, slice_get_within steps place (Next next) at)) in
     let g = h.each place x.0 (Next next) x.1 at in
     omega (arith, h.many, slice_get_within X next g.to g.here)
 
 -- the marked words are those of bad chains
-pub bad_marks : (shape : Shape) (p q : List Row) → IsPair shape p → IsPower shape p (negsuc 0) q → (X : List Word) (ahead behind : List Step) (marks : List Bool) → AreSteps shape p X ahead → AreSteps shape q X behind
+pub bad_marks : (shape : Shape) (p q : List Row) → IsPair shape p → IsPower shape p (negsuc 0) q → (X : List Word) (ahead behind : List Step) (marks : List Bool) → AreRoundSteps shape p X ahead → AreRoundSteps shape q X behind
     → AreBadPlaces ahead behind marks → AreBadMarks shape p X marks
 bad_marks shape p q pair power X ahead behind marks h g m = record {
   held = h.held;

@@ -1,6 +1,6 @@
 -- What a canonical pair does with the words of a basis, told from its rows.
 use Rattle.std.proofs.Common.{◌≡◌, ℕ, zero, suc, ◌⊎◌, inl, inr, List, [], ◌∷◌, ◌++◌, length, Some, slice_get, refl, sym, ap, ◌∙◌, subst, arith, Contains, pos}
-use Rattle.std.proofs.lemmas.Option.{slice_get_within, get_or_from_slice_get}
+use Rattle.std.proofs.lemmas.Option.{slice_get_within, slice_get-get_or, get_or_from_slice_get}
 use Rattle.ht_word.specs.Words.{IsWordOf, ◌·◌, IsUnderSome}
 use Rattle.ht_word.specs.declared.shape.Shape.{Shape}
 use Rattle.ht_word.specs.declared.word.Word.{Word}
@@ -38,6 +38,10 @@ splits_outside shape p canonical X u v h m none = λ c.
 -- the word at a place is in the list
 pub listed_at : (X : List Word) (place : ℕ) (x : Word) → slice_get X place ≡ Some x → Contains X x
 listed_at X place x e = (place, slice_get_within X place x e, get_or_from_slice_get X place x x e)
+
+-- what is listed stands at its place
+pub at_place : {A : Type 0} (X : List A) (x : A) → (c : Contains X x) → slice_get X c.0 ≡ Some x
+at_place X x c = slice_get-get_or X c.0 x c.1 ∙ ap (λ y. Some y) c.2
 
 -- what stands at one place is one
 pub same_at : {T : Type 0} (xs ys : List T) (place : ℕ) (x y : T) → xs ≡ ys → slice_get xs place ≡ Some x → slice_get ys place ≡ Some y → x ≡ y

@@ -7,7 +7,7 @@ use Rattle.ht_word.proofs.Deciding.{same_or_not}
 use Rattle.ht_quasi.specs.declared.step.Step.{Step}
 use Rattle.ht_quasi.specs.declared.step.Step.TheVariants.{Splits, Next, Descends}
 use Rattle.ht_quasi.specs.Rounds.{IsMarked}
-use Rattle.ht_quasi.specs.Walks.{LeadsIn, FollowsIn, IsOnWalk, IsBadPlace, AreBadPlaces}
+use Rattle.ht_quasi.specs.Walks.{SplitsAfter, FollowsIn, IsOnWalk, IsBadPlace, AreBadPlaces}
 
 -- the step at a place
 pub step_at : (steps : List Step) (place : ℕ) (d step : Step) → place < length steps → get_or steps place d ≡ step → slice_get steps place ≡ Some step
@@ -16,32 +16,32 @@ step_at steps place d step l e = slice_get-get_or steps place d l ∙ ap (λ (t 
 -- ---- the search for a split
 
 -- so many steps were taken from the start to the place
-pub record IsWalked (steps : List Step) (start count place : ℕ) : Type 0 where
+pub record IsWalkSoFar (steps : List Step) (start count place : ℕ) : Type 0 where
   pub inside : place < length steps
-  pub on : (k : ℕ) → LeadsIn steps k place → LeadsIn steps (count + k) start
-  pub off : (k : ℕ) → LeadsIn steps k start → (j : ℕ) × (k ≡ count + j) × LeadsIn steps j place
+  pub on : (k : ℕ) → SplitsAfter steps k place → SplitsAfter steps (count + k) start
+  pub off : (k : ℕ) → SplitsAfter steps k start → (j : ℕ) × (k ≡ count + j) × SplitsAfter steps j place
 
-pub not_walked : (steps : List Step) (start : ℕ) → start < length steps → IsWalked steps start 0 start
+pub not_walked : (steps : List Step) (start : ℕ) → start < length steps → IsWalkSoFar steps start 0 start
 not_walked steps start inside = record {
   inside = inside;
-  on = λ k h. subst (λ j. LeadsIn steps j start) (omega arith) h;
+  on = λ k h. subst (λ j. SplitsAfter steps j start) (omega arith) h;
   off = λ k h. (k, omega arith, h);
 }
 
 -- what leads on from a place whose step is known
-leads_on : (steps : List Step) (place next k : ℕ) → slice_get steps place ≡ Some (Next next) → LeadsIn steps k place → (j : ℕ) × (k ≡ suc j) × LeadsIn steps j next
-unfolding LeadsIn
+leads_on : (steps : List Step) (place next k : ℕ) → slice_get steps place ≡ Some (Next next) → SplitsAfter steps k place → (j : ℕ) × (k ≡ suc j) × SplitsAfter steps j next
+unfolding SplitsAfter
 leads_on steps place next zero here h = absurd (let e : Some (Next next) ≡ Some Splits = sym here ∙ h in cc)
-leads_on steps place next (suc k) here h = (k, refl, (let e : Some (Next next) ≡ Some (Next h.0) = sym here ∙ h.1 in let same : h.0 ≡ next = cc in subst (LeadsIn steps k) same h.2))
+leads_on steps place next (suc k) here h = (k, refl, (let e : Some (Next next) ≡ Some (Next h.0) = sym here ∙ h.1 in let same : h.0 ≡ next = cc in subst (SplitsAfter steps k) same h.2))
 
-leads_from : (steps : List Step) (place next k : ℕ) → slice_get steps place ≡ Some (Next next) → LeadsIn steps k next → LeadsIn steps (suc k) place
-unfolding LeadsIn
+leads_from : (steps : List Step) (place next k : ℕ) → slice_get steps place ≡ Some (Next next) → SplitsAfter steps k next → SplitsAfter steps (suc k) place
+unfolding SplitsAfter
 leads_from steps place next k here h = (next, here, h)
 
-pub walked_on : (steps : List Step) (start count place next : ℕ) → IsWalked steps start count place → slice_get steps place ≡ Some (Next next) → next < length steps → IsWalked steps start (count + 1) next
+pub walked_on : (steps : List Step) (start count place next : ℕ) → IsWalkSoFar steps start count place → slice_get steps place ≡ Some (Next next) → next < length steps → IsWalkSoFar steps start (count + 1) next
 walked_on steps start count place next w here inside = record {
   inside = inside;
-  on = λ k h. subst (λ j. LeadsIn steps j start) (omega arith) (w.on (suc k) (leads_from steps place next k here h));
+  on = λ k h. subst (λ j. SplitsAfter steps j start) (omega arith) (w.on (suc k) (leads_from steps place next k here h));
   off = λ k h.
       let f = w.off k h in
       let g = leads_on steps place next f.0 here f.2 in
@@ -49,21 +49,21 @@ walked_on steps start count place next w here inside = record {
 }
 
 -- at a word that splits the walk ends
-pub walked_out : (steps : List Step) (start count place : ℕ) → IsWalked steps start count place → slice_get steps place ≡ Some Splits → LeadsIn steps count start
-unfolding LeadsIn
-walked_out steps start count place w here = subst (λ j. LeadsIn steps j start) (omega arith) (w.on 0 here)
+pub walked_out : (steps : List Step) (start count place : ℕ) → IsWalkSoFar steps start count place → slice_get steps place ≡ Some Splits → SplitsAfter steps count start
+unfolding SplitsAfter
+walked_out steps start count place w here = subst (λ j. SplitsAfter steps j start) (omega arith) (w.on 0 here)
 
 -- a word that descends leads to none
-pub walked_down : (steps : List Step) (start count place below : ℕ) → IsWalked steps start count place → slice_get steps place ≡ Some (Descends below) → (k : ℕ) → k < length steps → ¬ LeadsIn steps k start
-unfolding LeadsIn
+pub walked_down : (steps : List Step) (start count place below : ℕ) → IsWalkSoFar steps start count place → slice_get steps place ≡ Some (Descends below) → (k : ℕ) → k < length steps → ¬ SplitsAfter steps k start
+unfolding SplitsAfter
 walked_down steps start count place below w here k l h = none (w.off k h).0 (w.off k h).2
   where
-    none : (j : ℕ) → LeadsIn steps j place → ⊥
+    none : (j : ℕ) → SplitsAfter steps j place → ⊥
     none zero g = let e : Some (Descends below) ≡ Some Splits = sym here ∙ g in cc
     none (suc j) g = let e : Some (Descends below) ≡ Some (Next g.0) = sym here ∙ g.1 in cc
 
 -- nor does one from which as many steps were taken as there are words
-pub walked_far : (steps : List Step) (start count place : ℕ) → IsWalked steps start count place → length steps ≤ count → (k : ℕ) → k < length steps → ¬ LeadsIn steps k start
+pub walked_far : (steps : List Step) (start count place : ℕ) → IsWalkSoFar steps start count place → length steps ≤ count → (k : ℕ) → k < length steps → ¬ SplitsAfter steps k start
 walked_far steps start count place w far k l h = absurd (let f = (w.off k h).1 in omega arith)
 
 -- ---- marks
@@ -89,18 +89,18 @@ pub record AreOnWalk (steps : List Step) (count start : ℕ) (old marks : List B
   pub inside : place < length steps
   pub left : ℕ
   pub all : taken + left ≡ count
-  pub leads : LeadsIn steps left place
+  pub leads : SplitsAfter steps left place
   pub begun : IsMarked (set marks place true) start
   pub kept : (other : ℕ) → IsMarked old other → IsMarked marks other
   pub only : (other : ℕ) → IsMarked marks other → IsMarked old other ⊎ IsOnWalk steps count start other
 
 -- a place on a walk is a place
-pub leads_inside : (steps : List Step) (k place : ℕ) → LeadsIn steps k place → place < length steps
-unfolding LeadsIn
+pub leads_inside : (steps : List Step) (k place : ℕ) → SplitsAfter steps k place → place < length steps
+unfolding SplitsAfter
 leads_inside steps zero place h = slice_get_within steps place Splits h
 leads_inside steps (suc k) place h = slice_get_within steps place (Next h.0) h.1
 
-pub none_on_walk : (steps : List Step) (count start : ℕ) (marks : List Bool) → length marks ≡ length steps → LeadsIn steps count start → AreOnWalk steps count start marks marks 0 start
+pub none_on_walk : (steps : List Step) (count start : ℕ) (marks : List Bool) → length marks ≡ length steps → SplitsAfter steps count start → AreOnWalk steps count start marks marks 0 start
 unfolding FollowsIn
 none_on_walk steps count start marks many leads = record {
   follows = refl;
@@ -115,10 +115,10 @@ none_on_walk steps count start marks many leads = record {
 
 -- before the end of the walk each word has a next one
 pub has_next : (steps : List Step) (count start : ℕ) (old marks : List Bool) (taken place : ℕ) → AreOnWalk steps count start old marks taken place → taken < count → (next : ℕ) × (slice_get steps place ≡ Some (Next next))
-unfolding LeadsIn
+unfolding SplitsAfter
 has_next steps count start old marks taken place w l = by w.left (omega (arith, w.all)) w.leads
   where
-    by : (left : ℕ) → 0 < left → LeadsIn steps left place → (next : ℕ) × (slice_get steps place ≡ Some (Next next))
+    by : (left : ℕ) → 0 < left → SplitsAfter steps left place → (next : ℕ) × (slice_get steps place ≡ Some (Next next))
     by zero l h = absurd (omega arith)
     by (suc left) l h = (h.0, h.1)
 
@@ -138,7 +138,7 @@ only_on steps count start old marks taken place w other h = elim (mark_only mark
     behind = w.left;
     all = w.all;
     follows = subst (FollowsIn steps taken start) (sym e) w.follows;
-    leads = subst (LeadsIn steps w.left) (sym e) w.leads;
+    leads = subst (SplitsAfter steps w.left) (sym e) w.leads;
   })
 ]
 
@@ -174,7 +174,7 @@ only_at_end steps count start old marks taken place w other h = only_on steps co
 pub record AreBadSoFar (ahead behind : List Step) (marks : List Bool) (count : ℕ) : Type 0 where
   pub many : length marks ≡ length ahead
   pub bad : (place : ℕ) → IsMarked marks place → IsBadPlace ahead behind place
-  pub all : (start k : ℕ) → start < count → slice_get behind start ≡ Some Splits → k < length ahead → LeadsIn ahead k start → IsMarked marks start
+  pub all : (start k : ℕ) → start < count → slice_get behind start ≡ Some Splits → k < length ahead → SplitsAfter ahead k start → IsMarked marks start
 
 pub none_bad_yet : (ahead behind : List Step) (marks : List Bool) → marks ≡ replicate (length ahead) false → AreBadSoFar ahead behind marks 0
 none_bad_yet ahead behind marks e = subst (λ t. AreBadSoFar ahead behind t 0) (sym e) (record {
@@ -189,14 +189,14 @@ none_bad_yet ahead behind marks e = subst (λ t. AreBadSoFar ahead behind t 0) (
     unmarked (suc n) (suc place) = unmarked n place
 
 pub one_more_start : (ahead behind : List Step) (marks new : List Bool) (start : ℕ) → AreBadSoFar ahead behind marks start → length new ≡ length marks
-    → ((k : ℕ) → slice_get behind start ≡ Some Splits → k < length ahead → LeadsIn ahead k start → IsMarked new start) → ((place : ℕ) → IsMarked marks place → IsMarked new place)
+    → ((k : ℕ) → slice_get behind start ≡ Some Splits → k < length ahead → SplitsAfter ahead k start → IsMarked new start) → ((place : ℕ) → IsMarked marks place → IsMarked new place)
     → ((place : ℕ) → IsMarked new place → IsMarked marks place ⊎ IsBadPlace ahead behind place) → AreBadSoFar ahead behind new (start + 1)
 one_more_start ahead behind marks new start h many all kept only = record {
   many = many ∙ h.many;
   bad = λ place m. elim (only place m) [ inl k ↦ h.bad place k | inr b ↦ b ];
   all = λ other k l s m leads. elim (cases_lt other start) [
     | inl less ↦ kept other (h.all other k less s m leads)
-    | inr more ↦ (let same : other ≡ start = omega arith in subst (IsMarked new) (sym same) (all k (subst (λ t. slice_get behind t ≡ Some Splits) same s) m (subst (LeadsIn ahead k) same leads)))
+    | inr more ↦ (let same : other ≡ start = omega arith in subst (IsMarked new) (sym same) (all k (subst (λ t. slice_get behind t ≡ Some Splits) same s) m (subst (SplitsAfter ahead k) same leads)))
   ];
 }
 

@@ -16,17 +16,16 @@ use Rattle.ht_pair.specs.Products.{IsPower}
 use Rattle.ht_pair.specs.Steps.{Steps, Carries}
 use Rattle.ht_pair.specs.SemiNormal.{CarriesUnder}
 use Rattle.ht_pair.proofs.BasisLaws.{some_at, some_trans, basis_holds, basis_word, basis_from}
-use Rattle.ht_pair.proofs.CanonicalLaws.{Everywhere, reduced_pair}
 use Rattle.ht_pair.proofs.CarriesLaws.{carries_single, carries_word, carries_from_steps, carries_extends, carries_back, carries_injective}
 use Rattle.ht_pair.proofs.IdentityLaws.{from_words-keep, to_words-keep}
 use Rattle.ht_pair.proofs.MovesLaws.{turn, from_words-turned}
 use Rattle.ht_pair.proofs.PrefixMapLaws.{back, length-carried}
 use Rattle.ht_pair.proofs.QuasinormalLaws.{both_under}
-use Rattle.ht_pair.proofs.ReducedLaws.{row_above}
 use Rattle.ht_pair.proofs.StepsLaws.{steps_map}
 use Rattle.ht_ops.specs.Blocks.{IsFullProduct}
 use Rattle.ht_quasi.specs.Quasis.{kept, IsYOf}
 use Rattle.ht_quasi.proofs.MirrorLaws.{inverse_mirrors, under_to, under_from}
+use Rattle.ht_quasi.proofs.StepLaws.{carried_moves}
 
 -- the row from a word to itself
 keep : Word → Row
@@ -66,14 +65,6 @@ under_moved p u v m = some_at (from_words p) m.row.from u (Contains-map (λ (t :
 -- a row moves its `from` word to its `to` word
 row_moves : (p : List Row) (row : Row) → Contains p row → Moves p row.from row.to
 row_moves p row c = record { row = row; rest = []; listed = c; from = sym (after-nil row.from); to = sym (after-nil row.to) }
-
--- what a reduced pair carries it moves
-carried_moves : (shape : Shape) (p : List Row) → IsCanonical shape p → (u v : Word) → Carries shape p (pos 1) u v → Moves p u v
-carried_moves shape p canonical u v c =
-    let pair = canonical.pair in
-    let s = row_above shape Everywhere p (reduced_pair shape p pair canonical.reduced) (longest (from_words p)) u v c.word tt (omega arith) (record { at = λ z w hz m. c.carried z w hz (u · z, refl, m) }) in
-    let m = moved_under p u s in
-    subst (Moves p u) (carries_single shape p pair (pos 1) u m.0 v (carries_from_steps shape p pair (pos 1) u m.0 c.word (u, refl, m.1)) c) m.1
 
 -- moved by the rows: a word under X that p moves to a word under X
 record IsMovedUnder (p : List Row) (X : List Word) (u w : Word) : Type 0 where

@@ -6,7 +6,7 @@
 --     AreAllInside steps count        so are the places of all steps
 --     StaysAs marks places old new    the step goes to a word, or below one, that isn't marked, and tells its place after
 --     IsRightAt shape p X kept place  the step, where there is one, is that of the word of X at the place
---     HaveSteps shape p X count steps   the first words of X have their steps
+--     HaveRoundSteps shape p X count steps  the first words of X have their steps
 --     IsRenewed shape p old marks X steps   where the old steps are those of a basis, these are the steps of X, the basis after
 use Rattle.std.specs.Prelude.{ℕ, zero, suc, ◌≡◌, ◌+◌, ◌<◌, Bool, false, cond, List, [], ◌∷◌, length, Option, Some, slice_get, slice_index_or, ⊤}
 use Rattle.ht_word.specs.declared.word.Word.{Word}
@@ -15,7 +15,7 @@ use Rattle.ht_pair.specs.declared.row.Row.{Row}
 use Rattle.ht_pair.specs.HeldBases.{expanded_at}
 use Rattle.ht_quasi.specs.declared.step.Step.{Step}
 use Rattle.ht_quasi.specs.declared.step.Step.TheVariants.{Splits, Next, Descends}
-use Rattle.ht_quasi.specs.Rounds.{HasStep, AreSteps}
+use Rattle.ht_quasi.specs.Rounds.{HasRoundStep, AreRoundSteps}
 
 abbrev pub place_after : ℕ → List Bool → ℕ → ℕ
 place_after n marks zero = 0
@@ -40,11 +40,11 @@ StaysAs marks places (Next place) kept = (slice_index_or marks place false ≡ f
 StaysAs marks places (Descends place) kept = (slice_index_or marks place false ≡ false) × (kept ≡ Descends (slice_index_or places place 0))
 
 abbrev pub IsRightAt : Shape → List Row → List Word → Option Step → ℕ → Type 0
-IsRightAt shape p X kept place = (step : Step) (x : Word) → kept ≡ Some step → slice_get X place ≡ Some x → HasStep shape p X x step
+IsRightAt shape p X kept place = (step : Step) (x : Word) → kept ≡ Some step → slice_get X place ≡ Some x → HasRoundStep shape p X x step
 
-pub record HaveSteps (shape : Shape) (p : List Row) (X : List Word) (count : ℕ) (steps : List Step) : Type 0 where
+pub record HaveRoundSteps (shape : Shape) (p : List Row) (X : List Word) (count : ℕ) (steps : List Step) : Type 0 where
   pub many : length steps ≡ count
-  pub each : (place : ℕ) (x : Word) (step : Step) → slice_get X place ≡ Some x → slice_get steps place ≡ Some step → HasStep shape p X x step
+  pub each : (place : ℕ) (x : Word) (step : Step) → slice_get X place ≡ Some x → slice_get steps place ≡ Some step → HasRoundStep shape p X x step
 
 abbrev pub IsRenewed : Shape → List Row → List Step → List Bool → List Word → List Step → Type 0
-IsRenewed shape p old marks X steps = (before : List Word) → AreSteps shape p before old → X ≡ expanded_at shape before marks → AreSteps shape p X steps
+IsRenewed shape p old marks X steps = (before : List Word) → AreRoundSteps shape p before old → X ≡ expanded_at shape before marks → AreRoundSteps shape p X steps

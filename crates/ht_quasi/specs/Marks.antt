@@ -2,7 +2,7 @@
 --
 --     AreMarks W X marks            the words of X that are in the list W are marked, and no others
 --     told stays comes              the class of a word by whether it is a `from` word and whether it is a `to` word
---     AreTold stays comes classes   each class is told by the marks at its place
+--     AreClassesBy stays comes classes  each class is told by the marks at its place
 use Rattle.std.specs.Prelude.{ℕ, ◌≡◌, ◌<◌, ◌↔◌, Bool, IsTrue, List, length, slice_index_or, Contains, cond}
 use Rattle.ht_word.specs.declared.word.Word.{Word}
 use Rattle.ht_quasi.specs.declared.quasi.Class.{Class}
@@ -15,5 +15,5 @@ pub record AreMarks (W X : List Word) (marks : List Bool) : Type 0 where
 abbrev pub told : Bool → Bool → Class
 told stays comes = cond stays (cond comes Plain Joined) Splits
 
-pub record AreTold (stays comes : List Bool) (classes : List Class) : Type 0 where
+pub record AreClassesBy (stays comes : List Bool) (classes : List Class) : Type 0 where
   pub each : (place : ℕ) (first second : Bool) (class : Class) → place < length classes → slice_index_or classes place class ≡ told (slice_index_or stays place first) (slice_index_or comes place second)

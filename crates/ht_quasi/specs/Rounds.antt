@@ -2,8 +2,8 @@
 --
 --     GoesTo shape p X x place         p carries x to the word of X at the place, counted from 0
 --     GoesBelow shape p X x place      p carries x to a longer word under the word of X at the place
---     HasStep shape p X x step         what p does with x: it carries x to no word under X, to a word of X, or to one below
---     AreSteps shape p X steps         X is a basis in ascending order, each word with its step
+--     HasRoundStep shape p X x step    what p does with x: it carries x to no word under X, to a word of X, or to one below
+--     AreRoundSteps shape p X steps    X is a basis in ascending order, each word with its step
 --     IsMarked marks place             the mark at the place is set
 use Rattle.std.specs.Prelude.{ℕ, ◌≡◌, ◌≢◌, Bool, true, false, List, [], length, Some, slice_get, slice_index_or, pos}
 use Rattle.ht_word.specs.declared.word.Word.{Word}
@@ -28,15 +28,15 @@ pub record GoesBelow (shape : Shape) (p : List Row) (X : List Word) (x : Word) (
   pub longer : rest ≢ []
   pub carries : Carries shape p (pos 1) x (above · rest)
 
-abbrev pub HasStep : Shape → List Row → List Word → Word → Step → Type 0
-HasStep shape p X x Splits = chains.Splits shape p X x
-HasStep shape p X x (Next place) = GoesTo shape p X x place
-HasStep shape p X x (Descends place) = GoesBelow shape p X x place
+abbrev pub HasRoundStep : Shape → List Row → List Word → Word → Step → Type 0
+HasRoundStep shape p X x Splits = chains.Splits shape p X x
+HasRoundStep shape p X x (Next place) = GoesTo shape p X x place
+HasRoundStep shape p X x (Descends place) = GoesBelow shape p X x place
 
-pub record AreSteps (shape : Shape) (p : List Row) (X : List Word) (steps : List Step) : Type 0 where
+pub record AreRoundSteps (shape : Shape) (p : List Row) (X : List Word) (steps : List Step) : Type 0 where
   pub held : IsHeldBasis shape X
   pub many : length steps ≡ length X
-  pub each : (place : ℕ) (x : Word) (step : Step) → slice_get X place ≡ Some x → slice_get steps place ≡ Some step → HasStep shape p X x step
+  pub each : (place : ℕ) (x : Word) (step : Step) → slice_get X place ≡ Some x → slice_get steps place ≡ Some step → HasRoundStep shape p X x step
 
 abbrev pub IsMarked : List Bool → ℕ → Type 0
 IsMarked marks place = slice_index_or marks place false ≡ true

@@ -1,7 +1,7 @@
 -- Walks by the steps of the words of a basis, told by their places, from 0.
 --
---     AreInside steps                 the words that steps go to are at places of the list
---     LeadsIn steps k place           k steps lead from the place to one that splits
+--     StayInside steps                the words that steps go to are at places of the list
+--     SplitsAfter steps k place       k steps lead from the place to one that splits
 --     FollowsIn steps k start place   k steps lead from the start to the place
 --     IsOnWalk steps k start place    the place is on the walk of k steps from the start to one that splits
 --     IsBadPlace ahead behind place   it is on such a walk from a start that splits by the steps back
@@ -11,12 +11,12 @@ use Rattle.ht_quasi.specs.declared.step.Step.{Step}
 use Rattle.ht_quasi.specs.declared.step.Step.TheVariants.{Splits, Next}
 use Rattle.ht_quasi.specs.Rounds.{IsMarked}
 
-abbrev pub AreInside : List Step → Type 0
-AreInside steps = (place next : ℕ) → slice_get steps place ≡ Some (Next next) → next < length steps
+abbrev pub StayInside : List Step → Type 0
+StayInside steps = (place next : ℕ) → slice_get steps place ≡ Some (Next next) → next < length steps
 
-unfoldable pub LeadsIn : List Step → ℕ → ℕ → Type 0
-LeadsIn steps zero place = slice_get steps place ≡ Some Splits
-LeadsIn steps (suc k) place = (next : ℕ) × (slice_get steps place ≡ Some (Next next)) × LeadsIn steps k next
+unfoldable pub SplitsAfter : List Step → ℕ → ℕ → Type 0
+SplitsAfter steps zero place = slice_get steps place ≡ Some Splits
+SplitsAfter steps (suc k) place = (next : ℕ) × (slice_get steps place ≡ Some (Next next)) × SplitsAfter steps k next
 
 unfoldable pub FollowsIn : List Step → ℕ → ℕ → ℕ → Type 0
 FollowsIn steps zero start place = start ≡ place
@@ -27,7 +27,7 @@ pub record IsOnWalk (steps : List Step) (k start place : ℕ) : Type 0 where
   pub behind : ℕ
   pub all : before + behind ≡ k
   pub follows : FollowsIn steps before start place
-  pub leads : LeadsIn steps behind place
+  pub leads : SplitsAfter steps behind place
 
 pub record IsBadPlace (ahead behind : List Step) (place : ℕ) : Type 0 where
   pub start : ℕ
@@ -38,4 +38,4 @@ pub record IsBadPlace (ahead behind : List Step) (place : ℕ) : Type 0 where
 pub record AreBadPlaces (ahead behind : List Step) (marks : List Bool) : Type 0 where
   pub many : length marks ≡ length ahead
   pub bad : (place : ℕ) → IsMarked marks place → IsBadPlace ahead behind place
-  pub all : (start k : ℕ) → slice_get behind start ≡ Some Splits → k < length ahead → LeadsIn ahead k start → IsMarked marks start
+  pub all : (start k : ℕ) → slice_get behind start ≡ Some Splits → k < length ahead → SplitsAfter ahead k start → IsMarked marks start

@@ -1,7 +1,7 @@
 //! The words of the bad chains of a basis, by the steps of its words.
 ghost use Rattle.std.specs.Prelude.{◌≡◌, ◌<◌, ◌⊎◌, ℕ, true, false, length, slice_get, Some, IfOk, MatchOption};
 ghost use Rattle.ht_quasi.specs.Rounds.{IsMarked};
-ghost use Rattle.ht_quasi.specs.Walks.{AreInside, LeadsIn, IsOnWalk, IsBadPlace, AreBadPlaces};
+ghost use Rattle.ht_quasi.specs.Walks.{StayInside, SplitsAfter, IsOnWalk, IsBadPlace, AreBadPlaces};
 ghost use Rattle.ht_quasi.specs.declared.step.Step.TheVariants as step;
 
 use crate::step::Step;
@@ -11,9 +11,9 @@ use std::alloc::Global;
 // How many steps lead from a place to a word that splits; `None` exactly where no steps do, of
 // which there are fewer than words.
 fn steps_to_split(steps: &[Step], start: usize) -> Option<usize>
-    requires inside { AreInside steps.now }
+    requires inside { StayInside steps.now }
     requires start { start < length steps.now }
-    ensures { MatchOption result ((k : ℕ) → k < length steps.now → ¬ LeadsIn steps.now k start) (λ k. LeadsIn steps.now k start) }
+    ensures { MatchOption result ((k : ℕ) → k < length steps.now → ¬ SplitsAfter steps.now k start) (λ k. SplitsAfter steps.now k start) }
 {
     let mut place = start;
     for count in 0..steps.len() {
@@ -29,7 +29,7 @@ fn steps_to_split(steps: &[Step], start: usize) -> Option<usize>
 // Marks the places of a walk of so many steps to a word that splits.
 fn mark_walk(steps: &[Step], start: usize, count: usize, marks: &mut [bool])
     requires many { length marks.old ≡ length steps.now }
-    requires leads { LeadsIn steps.now count start }
+    requires leads { SplitsAfter steps.now count start }
     ensures start { IsMarked marks.new start }
     ensures kept { (place : ℕ) → IsMarked marks.old place → IsMarked marks.new place }
     ensures only { (place : ℕ) → IsMarked marks.new place → IsMarked marks.old place ⊎ IsOnWalk steps.now count start place }
@@ -48,11 +48,11 @@ fn mark_walk(steps: &[Step], start: usize, count: usize, marks: &mut [bool])
 // Marks the walk from a place to a word that splits, where the place splits by the steps back and
 // there is such a walk.
 fn mark_from(ahead: &[Step], behind: &[Step], start: usize, marks: &mut [bool])
-    requires inside { AreInside ahead.now }
+    requires inside { StayInside ahead.now }
     requires many { length marks.old ≡ length ahead.now }
     requires back { length behind.now ≡ length ahead.now }
     requires start { start < length ahead.now }
-    ensures all { (k : ℕ) → slice_get behind.now start ≡ Some step.Splits → k < length ahead.now → LeadsIn ahead.now k start → IsMarked marks.new start }
+    ensures all { (k : ℕ) → slice_get behind.now start ≡ Some step.Splits → k < length ahead.now → SplitsAfter ahead.now k start → IsMarked marks.new start }
     ensures kept { (place : ℕ) → IsMarked marks.old place → IsMarked marks.new place }
     ensures only { (place : ℕ) → IsMarked marks.new place → IsMarked marks.old place ⊎ IsBadPlace ahead.now behind.now place }
 {
@@ -73,7 +73,7 @@ pub(crate) fn bad_places(
     ahead: &[Step],
     behind: &[Step],
 ) -> Result<Vec<bool>, NoMemory>
-    requires inside { AreInside ahead.now }
+    requires inside { StayInside ahead.now }
     requires back { length behind.now ≡ length ahead.now }
     ensures { IfOk result (λ marks. AreBadPlaces ahead.now behind.now marks.items) }
 {

@@ -6,7 +6,7 @@ ghost use Rattle.ht_pair.specs.HeldBases.{IsHeldBasis};
 ghost use Rattle.ht_pair.specs.Pairs.{IsPair};
 ghost use Rattle.ht_pair.specs.Sides.{words_on};
 ghost use Rattle.ht_quasi.specs.Quasis.{IsYOf, AreClasses};
-ghost use Rattle.ht_quasi.specs.Marks.{AreMarks, AreTold, told};
+ghost use Rattle.ht_quasi.specs.Marks.{AreMarks, AreClassesBy, told};
 
 use crate::quasi::{Class, Classes};
 use ht_pair::{Basis, Row, Side};
@@ -54,7 +54,7 @@ fn class_of(stays: bool, comes: bool) -> Class
 // The classes that the marks tell. One pass.
 fn told_classes(alloc: Global, stays: &[bool], comes: &[bool]) -> Result<Classes, NoMemory>
     requires { length stays.now ≡ length comes.now }
-    ensures { IfOk result (λ classes. (length classes ≡ length stays.now) × AreTold stays.now comes.now classes) }
+    ensures { IfOk result (λ classes. (length classes ≡ length stays.now) × AreClassesBy stays.now comes.now classes) }
 {
     let mut classes = Classes::new(alloc);
     for (place, stay) in stays.iter().enumerate() {

@@ -1,7 +1,7 @@
 //! The steps of a basis after marked words gave way to their children, from those before. Only the
 //! children, and words carried to or below a marked word, are looked up anew.
 ghost use Rattle.std.specs.Prelude.{◌≡◌, ◌≢◌, ◌+◌, ◌<◌, ◌≤◌, ◌^◌, ◌∷◌, ◌++◌, [], ℕ, None, cond, length, IfOk, IfSome, OnOk};
-ghost use Rattle.ht_quasi.specs.Kept.{place_after, ArePlacesAfter, IsStepInside, AreAllInside, StaysAs, IsRightAt, HaveSteps, IsRenewed};
+ghost use Rattle.ht_quasi.specs.Kept.{place_after, ArePlacesAfter, IsStepInside, AreAllInside, StaysAs, IsRightAt, HaveRoundSteps, IsRenewed};
 
 use crate::step::{Step, Steps, step_of};
 use ht_pair::{Basis, Element};
@@ -53,7 +53,7 @@ fn add_step(
 ) -> Result<(), NoMemory>
     requires shape { basis.now.shape ≡ a.now.shape }
     requires room { length steps.old < length basis.now.words }
-    ensures { OnOk result ((length steps.new ≡ length steps.old + 1) × (IsRightAt a.now.shape a.now.rows basis.now.words known (length steps.old) → HaveSteps a.now.shape a.now.rows basis.now.words (length steps.old) steps.old → HaveSteps a.now.shape a.now.rows basis.now.words (length steps.new) steps.new)) }
+    ensures { OnOk result ((length steps.new ≡ length steps.old + 1) × (IsRightAt a.now.shape a.now.rows basis.now.words known (length steps.old) → HaveRoundSteps a.now.shape a.now.rows basis.now.words (length steps.old) steps.old → HaveRoundSteps a.now.shape a.now.rows basis.now.words (length steps.new) steps.new)) }
 {
     let step = match known {
         Some(step) => step,
@@ -66,7 +66,7 @@ fn add_step(
 fn add_steps(alloc: Global, a: &Element, basis: &Basis, steps: &mut Steps) -> Result<(), NoMemory>
     requires shape { basis.now.shape ≡ a.now.shape }
     requires room { length steps.old + a.now.shape.n ≤ length basis.now.words }
-    ensures { OnOk result ((length steps.new ≡ length steps.old + a.now.shape.n) × (HaveSteps a.now.shape a.now.rows basis.now.words (length steps.old) steps.old → HaveSteps a.now.shape a.now.rows basis.now.words (length steps.new) steps.new)) }
+    ensures { OnOk result ((length steps.new ≡ length steps.old + a.now.shape.n) × (HaveRoundSteps a.now.shape a.now.rows basis.now.words (length steps.old) steps.old → HaveRoundSteps a.now.shape a.now.rows basis.now.words (length steps.new) steps.new)) }
 {
     for _ in 0..a.shape().n {
         add_step(alloc, a, basis, steps, None)?;

@@ -2,7 +2,7 @@
 ghost use Rattle.std.specs.Prelude.{◌≡◌, length, Some, slice_get, IfOk};
 ghost use Rattle.ht_word.specs.Words.{IsWordOf};
 ghost use Rattle.ht_pair.specs.Bases.{IsBasis};
-ghost use Rattle.ht_quasi.specs.Rounds.{HasStep, AreSteps};
+ghost use Rattle.ht_quasi.specs.Rounds.{HasRoundStep, AreRoundSteps};
 
 use ht_pair::{Basis, Element};
 use ht_word::{List, NoMemory, Word};
@@ -30,7 +30,7 @@ pub(crate) fn step_of(
     word: &Word,
 ) -> Result<Step, NoMemory>
     requires { IsWordOf a.now.shape word.now }
-    ensures { IfOk result (HasStep a.now.shape a.now.rows basis.now.words word.now) }
+    ensures { IfOk result (HasRoundStep a.now.shape a.now.rows basis.now.words word.now) }
 {
     a.keeps_limits();
     let Some(moved) = a.move_word(alloc, word)? else {
@@ -49,7 +49,7 @@ pub(crate) fn step_of(
 // The step of each word of a basis. O(N log N) comparisons of words for N words and rows.
 pub(crate) fn steps(alloc: Global, a: &Element, basis: &Basis) -> Result<Steps, NoMemory>
     requires { basis.now.shape ≡ a.now.shape }
-    ensures { IfOk result (AreSteps a.now.shape a.now.rows basis.now.words) }
+    ensures { IfOk result (AreRoundSteps a.now.shape a.now.rows basis.now.words) }
 {
     let mut steps = Steps::new(alloc);
     for word in basis.words().as_slice() {

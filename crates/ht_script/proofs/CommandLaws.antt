@@ -13,7 +13,7 @@ use Rattle.ht_script.specs.declared.command.Slot.{Slot}
 use Rattle.ht_script.specs.declared.command.Slot.TheVariants.{Number, Name, Equals, Word, File}
 use Rattle.ht_script.specs.declared.ending.Ending.{Ending}
 use Rattle.ht_script.specs.Tokens.{Is, IsToken, IsSpaced, IsApart}
-use Rattle.ht_script.specs.Slots.{keyword, IsSlot, IsEnding, IsBehind, IsKeyword}
+use Rattle.ht_script.specs.Slots.{keyword, IsSlot, IsOfEnding, FitsSlots, IsKeyword}
 use Rattle.ht_script.proofs.TokenLaws.{AreTokens, spaced_before, one_spaced}
 use Rattle.ht_script.proofs.FrontLaws.{longest_same, front_map}
 use Rattle.ht_script.proofs.GrammarLaws.{number_token, name_token, equals_token, word_token, file_token}
@@ -117,15 +117,15 @@ some_slot Word = (codes "x1", (root_word 1, record { has_text = root_text; is = 
 
 -- a token of the slot, and behind it tokens of the slots and the ending
 abbrev pub SlotFits : Ending → Slot → List Slot → List ℕ → List ℕ → Type 0
-SlotFits e slot slots token rest = IsSlot slot token × IsBehind e slots rest
+SlotFits e slot slots token rest = IsSlot slot token × FitsSlots e slots rest
 
 -- one more space may stand before what stands behind a word
-pub space_before : (e : Ending) (slots : List Slot) (bytes : List ℕ) → IsBehind e slots bytes → IsBehind e slots (32 ∷ bytes)
+pub space_before : (e : Ending) (slots : List Slot) (bytes : List ℕ) → FitsSlots e slots bytes → FitsSlots e slots (32 ∷ bytes)
 space_before e [] bytes h = ending_before e bytes h
 space_before e (slot ∷ slots) bytes h = spaced_before (SlotFits e slot slots) bytes h
 
 -- something may stand behind each word
-pub some_behind : (e : Ending) (slots : List Slot) → (bytes : List ℕ) × IsBehind e slots bytes × IsApart bytes
+pub some_behind : (e : Ending) (slots : List Slot) → (bytes : List ℕ) × FitsSlots e slots bytes × IsApart bytes
 some_behind e [] = some_ending e
 some_behind e (slot ∷ slots) =
     let token = some_slot slot in
@@ -148,8 +148,8 @@ pub longest_slot : (e : Ending) (slot : Slot) (slots : List Slot) (t : List ℕ)
 longest_slot e slot slots t k h = longest_same (IsSlot slot) (Fits (SlotFits e slot slots)) t k (λ u f. slot_fits e slot slots u f) (λ u f. f.1.0) h
 
 -- the longest front of what stands behind a token of the slot
-pub longest_later : (e : Ending) (slot : Slot) (slots : List Slot) (t rest : List ℕ) (k : ℕ) → IsSlot slot t → IsLongestFront (IsBehind e slots) rest k → IsLongestFront (SlotFits e slot slots t) rest k
-longest_later e slot slots t rest k is_slot h = longest_same (IsBehind e slots) (SlotFits e slot slots t) rest k (λ u f. (is_slot, f)) (λ u f. f.1) h
+pub longest_later : (e : Ending) (slot : Slot) (slots : List Slot) (t rest : List ℕ) (k : ℕ) → IsSlot slot t → IsLongestFront (FitsSlots e slots) rest k → IsLongestFront (SlotFits e slot slots t) rest k
+longest_later e slot slots t rest k is_slot h = longest_same (FitsSlots e slots) (SlotFits e slot slots t) rest k (λ u f. (is_slot, f)) (λ u f. f.1) h
 
 -- the first of the commands that has the word
 abbrev find_command : List Command → List ℕ → Option Command
@@ -181,10 +181,10 @@ keyword_token command.Group = record { some = omega arith; no_space = All-from_r
 keyword_token c = record { some = omega arith; no_space = All-from_recursion (λ b. b ≢ 32) (keyword c) (search rules) }
 
 -- without slots there is the ending
-pub longest_no_slots : (e : Ending) (slots : List Slot) (bytes : List ℕ) (k : ℕ) → length slots ≡ 0 → IsLongestFront (IsEnding e) bytes k → IsLongestFront (IsBehind e slots) bytes k
+pub longest_no_slots : (e : Ending) (slots : List Slot) (bytes : List ℕ) (k : ℕ) → length slots ≡ 0 → IsLongestFront (IsOfEnding e) bytes k → IsLongestFront (FitsSlots e slots) bytes k
 longest_no_slots e [] bytes k none h = h
 longest_no_slots e (slot ∷ slots) bytes k none h = absurd (omega arith)
 
 -- of slots, the first and the later ones
-pub by_first_slot : (e : Ending) (slots : List Slot) (slot : Slot) (later : List Slot) (bytes : List ℕ) (k : ℕ) → slots ≡ slot ∷ later → IsLongestFront (IsSpaced (SlotFits e slot later)) bytes k → IsLongestFront (IsBehind e slots) bytes k
-by_first_slot e slots slot later bytes k is h = subst (λ s. IsLongestFront (IsBehind e s) bytes k) (sym is) h
+pub by_first_slot : (e : Ending) (slots : List Slot) (slot : Slot) (later : List Slot) (bytes : List ℕ) (k : ℕ) → slots ≡ slot ∷ later → IsLongestFront (IsSpaced (SlotFits e slot later)) bytes k → IsLongestFront (FitsSlots e slots) bytes k
+by_first_slot e slots slot later bytes k is h = subst (λ s. IsLongestFront (FitsSlots e s) bytes k) (sym is) h

@@ -10,7 +10,7 @@ use Rattle.ht_text.specs.Texts.{IsDigitLetter, HasText, HasRowText, word_text, r
 use Rattle.ht_script.specs.declared.ending.Ending.{Ending}
 use Rattle.ht_script.specs.declared.ending.Ending.TheVariants as ending
 use Rattle.ht_script.specs.Tokens.{◌▸◌, IsSpaces, IsSpan, IsApart, IsFirstToken}
-use Rattle.ht_script.specs.Slots.{IsEnding}
+use Rattle.ht_script.specs.Slots.{IsOfEnding}
 use Rattle.ht_script.proofs.TokenLaws.{AreTokens, spaced_before, one_spaced}
 use Rattle.ht_script.proofs.FrontLaws.{longest_span, longest_same}
 use Rattle.ht_script.proofs.GrammarLaws.{rows_token}
@@ -65,14 +65,14 @@ longest_past_rows bytes at token rest k h rows spaces =
     longest_past_token RowsFit bytes at token rest k row_tokens row_takes_space h (longest_same IsSpaces (RowsFit token) rest k (λ t f. (rows, f)) (λ t f. f.1) (longest_span (λ b. b ≡ 32) rest k spaces))
 
 -- one more space may stand before an ending
-pub ending_before : (e : Ending) (bytes : List ℕ) → IsEnding e bytes → IsEnding e (32 ∷ bytes)
+pub ending_before : (e : Ending) (bytes : List ℕ) → IsOfEnding e bytes → IsOfEnding e (32 ∷ bytes)
 ending_before ending.Spaces bytes h = All-cons (λ b. b ≡ 32) 32 bytes refl h
 ending_before ending.Rows bytes h = spaced_before RowsFit bytes h
 ending_before ending.Value bytes (inl h) = inl (spaced_before RowsFit bytes h)
 ending_before ending.Value bytes (inr h) = inr (h.0, (h.1.0, listed_before h.0 bytes h.1.1))
 
 -- each ending has some bytes
-pub some_ending : (e : Ending) → (bytes : List ℕ) × IsEnding e bytes × IsApart bytes
+pub some_ending : (e : Ending) → (bytes : List ℕ) × IsOfEnding e bytes × IsApart bytes
 some_ending ending.Spaces = ([], All-nil (λ b. b ≡ 32), tt)
 some_ending ending.Rows = (32 ∷ (codes "x1>x1" ++ []), one_spaced RowsFit (codes "x1>x1") [] (some_rows, All-nil (λ b. b ≡ 32)) tt, refl)
 some_ending ending.Value = (32 ∷ (codes "x1>x1" ++ []), inl (one_spaced RowsFit (codes "x1>x1") [] (some_rows, All-nil (λ b. b ≡ 32)) tt), refl)

@@ -8,14 +8,14 @@ use Rattle.ht_script.proofs.TokenLaws.{begins, not_spaces, none_of, found, first
 use Rattle.ht_script.proofs.FactorTexts.{factor_token}
 
 -- what is left, behind the factors so far, makes a list of the bytes
-abbrev pub GoesOn : List Factor → List ℕ → List ℕ → Type 0
-GoesOn so left bytes = (more : List Factor) → AreListed more left → AreListed (so ++ more) bytes
+abbrev pub MakesList : List Factor → List ℕ → List ℕ → Type 0
+MakesList so left bytes = (more : List Factor) → AreListed more left → AreListed (so ++ more) bytes
 
 -- each list of the bytes has, behind so many factors, a list of what is left
 abbrev pub ComesFrom : ℕ → List ℕ → List ℕ → Type 0
 ComesFrom n left bytes = (fs : List Factor) → AreListed fs bytes → (more : List Factor) × AreListed more left × (length fs ≡ n + length more)
 
-pub goes_on : (so new : List Factor) (f : Factor) (left bytes : List ℕ) (at : ℕ) (token rest : List ℕ) → GoesOn so left bytes → IsFirstToken left at token rest → IsFactor f token → new ≡ so ++ f ∷ [] → GoesOn new rest bytes
+pub goes_on : (so new : List Factor) (f : Factor) (left bytes : List ℕ) (at : ℕ) (token rest : List ℕ) → MakesList so left bytes → IsFirstToken left at token rest → IsFactor f token → new ≡ so ++ f ∷ [] → MakesList new rest bytes
 goes_on so new f left bytes at token rest read h is_factor is = λ more m.
     let joined : so ++ f ∷ more ≡ new ++ more = sym (append_assoc so (f ∷ []) more) ∙ ap (λ t. t ++ more) (sym is) in
     subst (λ fs. AreListed fs bytes) joined (read (f ∷ more) (found (λ t r. IsFactor f t × AreListed more r) left at token rest h (is_factor, m)))
@@ -53,7 +53,7 @@ only_none n left bytes all spaces zero fs listed =
     let few : length fs ≡ 0 = omega arith in
     listed.0 (nil_from_length fs few)
 
-pub all_read : (so : List Factor) (left bytes : List ℕ) → GoesOn so left bytes → IsSpaces left → length so ≢ 0 → AreFactors so bytes
+pub all_read : (so : List Factor) (left bytes : List ℕ) → MakesList so left bytes → IsSpaces left → length so ≢ 0 → AreFactors so bytes
 all_read so left bytes read spaces some = ((λ e. some (ap (λ (t : List Factor). length t) e)), subst (λ fs. AreListed fs bytes) (append-nil so) (read [] spaces))
 
 pub one_more : (so new : List Factor) (f : Factor) → new ≡ so ++ f ∷ [] → length new ≡ length so + 1

@@ -9,7 +9,7 @@ use Rattle.ht_text.specs.Texts.{IsNum, IsWord, IsRows, HasText, HasRowText, IsDi
 use Rattle.ht_text.proofs.Cuts.{IsFree, free_one, free_append}
 use Rattle.ht_text.proofs.Numbers.{form_of_num, num_free}
 use Rattle.ht_script.specs.Tokens.{Is, IsToken}
-use Rattle.ht_script.specs.Names.{IsName, IsNameByte, IsFile, IsFileStart, IsFileByte}
+use Rattle.ht_script.specs.Names.{IsName, IsNameByte, IsFileName, IsFileStart, IsFileByte}
 
 pub number_token : (t : List ℕ) (n : ℕ) → IsNum t n → IsToken t
 number_token t n h = record { some = (form_of_num t n h).some; no_space = num_free 32 t n h (λ r. absurd (omega arith)) }
@@ -87,7 +87,7 @@ file_byte b h = λ e. grind arith
 file_start : (b : ℕ) → IsFileStart b → b ≢ 32
 file_start b h = λ e. grind arith
 
-pub file_token : (t : List ℕ) → IsFile t → IsToken t
+pub file_token : (t : List ℕ) → IsFileName t → IsToken t
 file_token t h = subst IsToken (sym h.is) (record {
   some = omega arith;
   no_space = All-cons (λ b. b ≢ 32) h.first h.others (file_start h.first h.is_start) (λ k d l. file_byte (get_or h.others k d) (h.are_bytes k d l));

@@ -15,9 +15,9 @@ use Rattle.ht_script.specs.declared.line.Line.{Line}
 use Rattle.ht_script.specs.declared.line.Line.TheVariants.{Blank, Group, Reduce, LetRows, LetProduct, Show, Equal, Image, Load, Basis, Order, Types, Profile, Parts, Conj, Ponds, Share}
 use Rattle.ht_script.specs.declared.ending.Ending.TheVariants as ending
 use Rattle.ht_script.specs.Tokens.{◌▸◌, Is, IsSpaces, IsToken, IsSpaced, IsSpan, IsFirstToken}
-use Rattle.ht_script.specs.Lines.{IsMarked, IsComment, IsNumber, AreRows, IsNamed, IsWritten, IsFileNamed, IsLine, IsNoLine, IsLineText}
-use Rattle.ht_script.specs.Slots.{keyword, slots_of, ending_of, IsEnding, IsBehind, IsTaken, Completes, HasOneName, Reads, IsKeyword, IsUnmarked}
-use Rattle.ht_script.specs.Names.{IsName, IsFile}
+use Rattle.ht_script.specs.Lines.{IsCommentText, IsComment, IsNumber, AreRows, IsNamed, IsWritten, IsFileNamed, IsLine, IsNoLine, IsLineText}
+use Rattle.ht_script.specs.Slots.{keyword, slots_of, ending_of, IsOfEnding, FitsSlots, IsTaken, Completes, HasOneName, Reads, IsKeyword, IsUnmarked}
+use Rattle.ht_script.specs.Names.{IsName, IsFileName}
 use Rattle.ht_script.specs.Factors.{AreFactors}
 use Rattle.ht_script.proofs.TokenLaws.{spaces_left, AreTokens, BeginsToken, begins, strip, not_spaces, refit, first_fits, both}
 use Rattle.ht_script.proofs.GrammarLaws.{name_token, equals_token}
@@ -79,7 +79,7 @@ two_words_behind rest b =
     let last = word_behind b.rest b.fits.1 in
     (first.0, last.0, refit _ (λ t u. IsWritten first.0 t × (IsWritten last.0 ▸ IsSpaces) u) rest b (first.1, last.1))
 
-pub file_behind : (rest : List ℕ) → (IsFile ▸ IsSpaces) rest → (file : List ℕ) × (IsFileNamed file ▸ IsSpaces) rest
+pub file_behind : (rest : List ℕ) → (IsFileName ▸ IsSpaces) rest → (file : List ℕ) × (IsFileNamed file ▸ IsSpaces) rest
 file_behind rest b = (b.token, refit _ (λ t u. IsFileNamed b.token t × IsSpaces u) rest b ((b.fits.0, refl), b.fits.1))
 
 -- a name, and behind it a value that can be read from what R holds of
@@ -91,7 +91,7 @@ pub name_behind : (rest : List ℕ) → (IsName ▸ IsSpaces) rest → (name : L
 name_behind rest b = (b.token, refit _ (λ t u. IsNamed b.token t × IsSpaces u) rest b ((b.fits.0, refl), b.fits.1))
 
 pub one_name_behind : (c : Command) (rest : List ℕ) → HasOneName c → IsTaken c rest → (name : List ℕ) × (IsNamed name ▸ IsSpaces) rest
-one_name_behind c rest one b = name_behind rest (subst₂ (λ e slots. IsBehind e slots rest) one.1 one.0 b)
+one_name_behind c rest one b = name_behind rest (subst₂ (λ e slots. FitsSlots e slots rest) one.1 one.0 b)
 
 pub two_names_behind : (rest : List ℕ) → (IsName ▸ IsName ▸ IsSpaces) rest → (first : List ℕ) × (second : List ℕ) × (IsNamed first ▸ IsNamed second ▸ IsSpaces) rest
 two_names_behind rest b = named_with (IsName ▸ IsSpaces) (λ name. IsNamed name ▸ IsSpaces) name_behind rest b
@@ -123,7 +123,7 @@ behind_equals R name rest bytes g h =
 
 let_behind : (rest : List ℕ) → IsTaken command.Let rest → (line : Line) × Completes command.Let line rest
 let_behind rest b =
-    let v = named_behind (IsEnding ending.Value) rest b in
+    let v = named_behind (IsOfEnding ending.Value) rest b in
     elim v.3 [
       | inl rows ↦ (let last = rows_behind v.1 rows in (LetRows v.0 last.0, with_behind (AreRows last.0 ▸ IsSpaces) v.0 v.1 rest v.2 last.1))
       | inr factors ↦ (LetProduct v.0 factors.0, with_behind (AreFactors factors.0) v.0 v.1 rest v.2 factors.1)
@@ -137,7 +137,7 @@ taken_line command.Let rest b = let_behind rest b
 taken_line command.Show rest b = let v = name_behind rest b in (Show v.0, v.1)
 taken_line command.Equal rest b = let v = two_names_behind rest b in (Equal v.0 v.1, v.2)
 taken_line command.Image rest b = let v = named_with (IsWordText ▸ IsSpaces) (λ word. IsWritten word ▸ IsSpaces) word_behind rest b in (Image v.0 v.1, v.2)
-taken_line command.Load rest b = let v = named_with (IsFile ▸ IsSpaces) (λ file. IsFileNamed file ▸ IsSpaces) file_behind rest b in (Load v.0 v.1, v.2)
+taken_line command.Load rest b = let v = named_with (IsFileName ▸ IsSpaces) (λ file. IsFileNamed file ▸ IsSpaces) file_behind rest b in (Load v.0 v.1, v.2)
 taken_line command.Basis rest b = let v = name_behind rest b in (Basis v.0, v.1)
 taken_line command.Order rest b = let v = name_behind rest b in (Order v.0, v.1)
 taken_line command.Types rest b = let v = name_behind rest b in (Types v.0, v.1)
@@ -201,7 +201,7 @@ AreNamed [] = IsSpaces
 AreNamed (name ∷ names) = IsNamed name ▸ AreNamed names
 
 -- they are the text of as many names
-names_text : (names : List (List ℕ)) (bytes : List ℕ) → AreNamed names bytes → IsBehind ending.Spaces (map (λ name. Name) names) bytes
+names_text : (names : List (List ℕ)) (bytes : List ℕ) → AreNamed names bytes → FitsSlots ending.Spaces (map (λ name. Name) names) bytes
 names_text [] bytes h = h
 names_text (name ∷ names) bytes h = refit _ _ bytes h (h.fits.0.0, names_text names h.rest h.fits.1)
 
@@ -283,7 +283,7 @@ unmarked_command bytes s = λ text m.
     (sym (same_mark m.before s.before text (keyword s.fits.of ++ s.rest) m.spaces s.spaces (begins (keyword s.fits.of) s.rest (keyword_token s.fits.of)) (sym m.is ∙ s.is ∙ ap (λ t. s.before ++ (t ++ s.rest)) s.fits.word)))
 
 -- behind a mark a line has no line feed
-pub behind_mark_of : (bytes text : List ℕ) (line : Line) → IsMarked bytes text → IsLine bytes line → All (λ b. b ≢ 10) text
+pub behind_mark_of : (bytes text : List ℕ) (line : Line) → IsCommentText bytes text → IsLine bytes line → All (λ b. b ≢ 10) text
 behind_mark_of bytes text line m is_line = elim (line_cases line bytes is_line) [
   | inl none ↦ (elim none [
     | inl spaces ↦ absurd (not_spaces bytes m.before (35 ∷ text) spaces m.is (mark_begins text))
@@ -300,7 +300,7 @@ begins_rest bytes at h more = subst BeginsToken (sym (drop_more bytes at 0 more)
 
 -- what a test for a mark behind the first spaces says
 pub mark_test : (bytes tail : List ℕ) (at : ℕ) (r : Option (Bor (List ℕ))) → IsSpan (λ b. b ≡ 32) bytes at → tail ≡ drop at bytes
-    → MatchOption r ((rest : List ℕ) → tail ≢ codes "#" ++ rest) (λ rest. tail ≡ codes "#" ++ rest.now) → MatchOption r ((text : List ℕ) → ¬ IsMarked bytes text) (λ text. IsMarked bytes text.now)
+    → MatchOption r ((rest : List ℕ) → tail ≢ codes "#" ++ rest) (λ rest. tail ≡ codes "#" ++ rest.now) → MatchOption r ((text : List ℕ) → ¬ IsCommentText bytes text) (λ text. IsCommentText bytes text.now)
 mark_test bytes tail at (Some text) h is t = record {
   before = take at bytes;
   spaces = h.passes;
@@ -316,7 +316,7 @@ pub span_all : (P : ℕ → Type 0) (bytes : List ℕ) (k : ℕ) → IsSpan P by
 span_all P bytes k h all = subst (λ t. All P t) (take_all k bytes all) h.passes
 
 -- the longest front of a line that begins with a comment
-pub longest_comment : (bytes text : List ℕ) (k : ℕ) → IsMarked bytes text → IsSpan (λ b. b ≢ 10) text k → IsLongestFront IsLineText bytes (length bytes - length text + k)
+pub longest_comment : (bytes text : List ℕ) (k : ℕ) → IsCommentText bytes text → IsSpan (λ b. b ≢ 10) text k → IsLongestFront IsLineText bytes (length bytes - length text + k)
 longest_comment bytes text k m h =
     let pre : List ℕ = m.before ++ 35 ∷ [] in
     let whole : pre ++ text ≡ bytes = append_assoc m.before (35 ∷ []) text ∙ sym m.is in
@@ -327,7 +327,7 @@ longest_comment bytes text k m h =
     (λ i low high f. record { rest = f.rest; text = behind_mark_of ((pre ++ take i text) ++ f.rest) (take i text ++ f.rest) f.text.0 (marked m.before m.spaces (take i text) f.rest) f.text.1 })
     (longest_span (λ b. b ≢ 10) text k h))
   where
-    marked : (before : List ℕ) → IsSpaces before → (x rest : List ℕ) → IsMarked (((before ++ 35 ∷ []) ++ x) ++ rest) (x ++ rest)
+    marked : (before : List ℕ) → IsSpaces before → (x rest : List ℕ) → IsCommentText (((before ++ 35 ∷ []) ++ x) ++ rest) (x ++ rest)
     marked before spaces x rest = record { before = before; spaces = spaces; is = append_assoc (before ++ 35 ∷ []) x rest ∙ append_assoc before (35 ∷ []) (x ++ rest) }
 
 -- a front of a comment is spaces, or has its mark

@@ -4,7 +4,7 @@ use Rattle.std.proofs.lemmas.List.{length-take-le, take-take}
 use Rattle.std.proofs.lemmas.List.Elements.{All-nil}
 use Rattle.ht_text.specs.Fronts.{IsFront, IsLongestFront}
 use Rattle.ht_script.specs.Tokens.{IsSpan}
-use Rattle.ht_script.specs.Names.{IsBounded, IsName, IsNameStart, IsNameByte, IsFile, IsFileStart, IsFileByte}
+use Rattle.ht_script.specs.Names.{IsBounded, IsName, IsNameStart, IsNameByte, IsFileName, IsFileStart, IsFileByte}
 use Rattle.ht_script.proofs.FrontLaws.{longest_whole, longest_behind, longest_stops, longest_span}
 
 -- what may stand behind the first byte of a name
@@ -25,7 +25,7 @@ name_a = one_byte IsNameStart IsNameByte 31 97 start_a
 pub file_start_a : IsFileStart 97
 file_start_a = grind arith
 
-pub file_a : IsFile (97 ∷ [])
+pub file_a : IsFileName (97 ∷ [])
 file_a = one_byte IsFileStart IsFileByte 63 97 file_start_a
 
 no_bytes : (P : List ℕ → Type 0) (b : ℕ) → P (b ∷ []) → IsLongestFront P [] 0

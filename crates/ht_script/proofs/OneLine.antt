@@ -15,7 +15,7 @@ use Rattle.ht_script.specs.Factors.{IsFactor, AreListed, AreFactors}
 use Rattle.ht_script.specs.Tokens.{◌▸◌, Is, IsSpaces, IsToken}
 use Rattle.ht_script.specs.Lines.{IsComment, IsNumber, AreRows, IsNamed, IsWritten, IsFileNamed, IsLine}
 use Rattle.ht_script.specs.Slots.{keyword, IsTaken}
-use Rattle.ht_script.proofs.TokenLaws.{AreBoth, both, no_token, none_of}
+use Rattle.ht_script.proofs.TokenLaws.{IsOneToken, both, no_token, none_of}
 use Rattle.ht_script.proofs.GrammarLaws.{number_token, name_token, equals_token, rows_token, rows_first, word_token, file_token}
 use Rattle.ht_script.proofs.FactorTexts.{factor_token, factor_first, same_listed}
 use Rattle.ht_script.proofs.CommandLaws.{keyword_token, same_command}
@@ -38,20 +38,20 @@ one_command bytes (Some c) (Some d) g h =
     ap Some (same_command c d (sym words.first ∙ words.second))
 
 -- the rest behind the word of a command
-behind_both : (c : Command) (R S : List ℕ → Type 0) (bytes : List ℕ) → (Is (keyword c) ▸ R) bytes → (Is (keyword c) ▸ S) bytes → AreBoth (Is (keyword c)) R (Is (keyword c)) S
+behind_both : (c : Command) (R S : List ℕ → Type 0) (bytes : List ℕ) → (Is (keyword c) ▸ R) bytes → (Is (keyword c) ▸ S) bytes → IsOneToken (Is (keyword c)) R (Is (keyword c)) S
 behind_both c R S bytes g h = both (Is (keyword c)) R (Is (keyword c)) S bytes (keyword_is_token c) (keyword_is_token c) g h
 
-one_number : (m n : ℕ) (R S : List ℕ → Type 0) (bytes : List ℕ) → (IsNumber m ▸ R) bytes → (IsNumber n ▸ S) bytes → (m ≡ n) × AreBoth (IsNumber m) R (IsNumber n) S
+one_number : (m n : ℕ) (R S : List ℕ → Type 0) (bytes : List ℕ) → (IsNumber m ▸ R) bytes → (IsNumber n ▸ S) bytes → (m ≡ n) × IsOneToken (IsNumber m) R (IsNumber n) S
 one_number m n R S bytes g h =
     let numbers = both (IsNumber m) R (IsNumber n) S bytes (λ t k. number_token t m k) (λ t k. number_token t n k) g h in
     (same_num numbers.token m n numbers.first numbers.second, numbers)
 
-one_name : (m n : List ℕ) (R S : List ℕ → Type 0) (bytes : List ℕ) → (IsNamed m ▸ R) bytes → (IsNamed n ▸ S) bytes → (m ≡ n) × AreBoth (IsNamed m) R (IsNamed n) S
+one_name : (m n : List ℕ) (R S : List ℕ → Type 0) (bytes : List ℕ) → (IsNamed m ▸ R) bytes → (IsNamed n ▸ S) bytes → (m ≡ n) × IsOneToken (IsNamed m) R (IsNamed n) S
 one_name m n R S bytes g h =
     let names = both (IsNamed m) R (IsNamed n) S bytes (λ t k. name_token t k.0) (λ t k. name_token t k.0) g h in
     (sym names.first.1 ∙ names.second.1, names)
 
-one_word : (u v : Word) (R S : List ℕ → Type 0) (bytes : List ℕ) → (IsWritten u ▸ R) bytes → (IsWritten v ▸ S) bytes → (u ≡ v) × AreBoth (IsWritten u) R (IsWritten v) S
+one_word : (u v : Word) (R S : List ℕ → Type 0) (bytes : List ℕ) → (IsWritten u ▸ R) bytes → (IsWritten v ▸ S) bytes → (u ≡ v) × IsOneToken (IsWritten u) R (IsWritten v) S
 one_word u v R S bytes g h =
     let words = both (IsWritten u) R (IsWritten v) S bytes (λ t k. word_token t u k) (λ t k. word_token t v k) g h in
     (same_word words.token u v words.first words.second, words)

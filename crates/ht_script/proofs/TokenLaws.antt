@@ -50,12 +50,12 @@ pub spaces_left : (a r : List ℕ) → IsSpaces (a ++ r) → IsSpaces a
 spaces_left a r h = subst IsSpaces (take_at a r (length a) refl) (All-take (λ b. b ≡ 32) (length a) (a ++ r) h)
 
 -- the token u goes on behind t, which has c behind it where u has y
-pub record GoesOn (t c u y : List ℕ) : Type 0 where
+pub record IsLongerToken (t c u y : List ℕ) : Type 0 where
   pub more : List ℕ
   pub token : u ≡ t ++ more
   pub rest : c ≡ more ++ y
 
-go_on : (t c u y : List ℕ) → NoSpace t → IsApart y → t ++ c ≡ u ++ y → GoesOn t c u y
+go_on : (t c u y : List ℕ) → NoSpace t → IsApart y → t ++ c ≡ u ++ y → IsLongerToken t c u y
 go_on [] c u y f apart e = record { more = u; token = refl; rest = e }
 go_on (p ∷ t) c [] [] f apart e = absurd cc
 go_on (p ∷ t) c [] (b ∷ y) f apart e = let head : p ≡ b = cc in absurd (f.0 (head ∙ apart))
@@ -67,7 +67,7 @@ go_on (p ∷ t) c (q ∷ u) y f apart e =
     record { more = on.more; token = cc; rest = on.rest }
 
 -- bytes without a space at the front of a token and its rest are the token's
-pub token_goes_on : (t c u y : List ℕ) → IsToken t → IsApart y → t ++ c ≡ u ++ y → GoesOn t c u y
+pub token_goes_on : (t c u y : List ℕ) → IsToken t → IsApart y → t ++ c ≡ u ++ y → IsLongerToken t c u y
 token_goes_on t c u y h apart e = go_on t c u y (recursion_from_All (λ b. b ≢ 32) t h.no_space) apart e
 
 one_token : (t x u y : List ℕ) → NoSpace t → NoSpace u → IsApart x → IsApart y → t ++ x ≡ u ++ y → (t ≡ u) × (x ≡ y)
@@ -169,7 +169,7 @@ one_spaced F token rest fits apart = record {
 }
 
 -- one token and one rest that two readings of the bytes agree on
-pub record AreBoth (T R U S : List ℕ → Type 0) : Type 0 where
+pub record IsOneToken (T R U S : List ℕ → Type 0) : Type 0 where
   pub token : List ℕ
   pub rest : List ℕ
   pub first : T token
@@ -177,7 +177,7 @@ pub record AreBoth (T R U S : List ℕ → Type 0) : Type 0 where
   pub behind_first : R rest
   pub behind_second : S rest
 
-pub both : (T R U S : List ℕ → Type 0) (bytes : List ℕ) → ((t : List ℕ) → T t → IsToken t) → ((t : List ℕ) → U t → IsToken t) → (T ▸ R) bytes → (U ▸ S) bytes → AreBoth T R U S
+pub both : (T R U S : List ℕ → Type 0) (bytes : List ℕ) → ((t : List ℕ) → T t → IsToken t) → ((t : List ℕ) → U t → IsToken t) → (T ▸ R) bytes → (U ▸ S) bytes → IsOneToken T R U S
 both T R U S bytes f g s h =
     let other = at_first (λ t r. U t × S r) bytes s.before s.token s.rest (λ t r k. g t k.0) s.spaces (f s.token s.fits.0) s.apart s.is h in
     record { token = s.token; rest = s.rest; first = s.fits.0; second = other.0; behind_first = s.fits.1; behind_second = other.1 }

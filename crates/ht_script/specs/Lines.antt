@@ -1,6 +1,6 @@
 -- The grammar of a line: which lines there are, each with the value that it has.
 --
---     IsMarked bytes text    spaces, a `#` and the text behind it
+--     IsCommentText bytes text  spaces, a `#` and the text behind it
 --     IsComment bytes        spaces, a `#` and anything but a line feed
 --     IsNumber n token       the token is the number n
 --     AreRows rows token     the token is the rows
@@ -17,17 +17,17 @@ use Rattle.ht_text.specs.Texts.{IsNum, IsWord, IsRows}
 use Rattle.ht_script.specs.declared.line.Line.{Line}
 use Rattle.ht_script.specs.declared.line.Line.TheVariants.{Blank, Group, Reduce, LetRows, LetProduct, Show, Equal, Image, Load, Basis, Order, Types, Profile, Parts, Conj, Ponds, Share}
 use Rattle.ht_script.specs.Tokens.{IsSpaces, Is, ◌▸◌}
-use Rattle.ht_script.specs.Names.{IsName, IsFile}
+use Rattle.ht_script.specs.Names.{IsName, IsFileName}
 use Rattle.ht_script.specs.Factors.{AreFactors}
 
-pub record IsMarked (bytes text : List ℕ) : Type 0 where
+pub record IsCommentText (bytes text : List ℕ) : Type 0 where
   pub before : List ℕ
   pub spaces : IsSpaces before
   pub is : bytes ≡ before ++ 35 ∷ text
 
 pub record IsComment (bytes : List ℕ) : Type 0 where
   pub text : List ℕ
-  pub marked : IsMarked bytes text
+  pub marked : IsCommentText bytes text
   pub one_line : All (λ b. b ≢ 10) text
 
 abbrev pub IsNumber : ℕ → List ℕ → Type 0
@@ -43,7 +43,7 @@ abbrev pub IsWritten : Word → List ℕ → Type 0
 IsWritten word token = IsWord token word
 
 abbrev pub IsFileNamed : List ℕ → List ℕ → Type 0
-IsFileNamed file token = IsFile token × (token ≡ file)
+IsFileNamed file token = IsFileName token × (token ≡ file)
 
 abbrev pub IsLine : List ℕ → Line → Type 0
 IsLine bytes Blank = IsSpaces bytes ⊎ IsComment bytes

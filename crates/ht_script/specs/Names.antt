@@ -6,7 +6,7 @@
 --     IsName bytes     1 to 32 bytes, the first such a start, the others such bytes
 --     IsFileStart b    a letter A to Z or a to z, or a digit 0 to 9
 --     IsFileByte b     the same, or `_`, `-` or `.`
---     IsFile bytes     1 to 64 bytes, the first such a start, the others such bytes
+--     IsFileName bytes  1 to 64 bytes, the first such a start, the others such bytes
 use Rattle.std.specs.Prelude.{◌≡◌, ◌≢◌, ◌≤◌, ◌⊎◌, ℕ, List, ◌∷◌, All, length}
 
 pub record IsBounded (Start Byte : ℕ → Type 0) (most : ℕ) (bytes : List ℕ) : Type 0 where
@@ -32,5 +32,5 @@ IsFileStart b = ((65 ≤ b) × (b ≤ 90)) ⊎ (((97 ≤ b) × (b ≤ 122)) ⊎ 
 abbrev pub IsFileByte : ℕ → Type 0
 IsFileByte b = IsFileStart b ⊎ ((b ≡ 95) ⊎ ((b ≡ 45) ⊎ (b ≡ 46)))
 
-abbrev pub IsFile : List ℕ → Type 0
-IsFile bytes = IsBounded IsFileStart IsFileByte 63 bytes
+abbrev pub IsFileName : List ℕ → Type 0
+IsFileName bytes = IsBounded IsFileStart IsFileByte 63 bytes

@@ -4,8 +4,8 @@
 --     slots_of command              what its further tokens are
 --     ending_of command             what stands behind these
 --     IsSlot slot token             the token fits the slot
---     IsEnding ending bytes         the bytes are of the ending: spaces alone, rows, or rows or factors
---     IsBehind ending slots bytes   a token for each slot, with spaces before each, and behind the last what the ending says
+--     IsOfEnding ending bytes       the bytes are of the ending: spaces alone, rows, or rows or factors
+--     FitsSlots ending slots bytes  a token for each slot, with spaces before each, and behind the last what the ending says
 --     IsTaken command bytes         the bytes may stand behind the command's word
 --     Completes command line bytes  the command's word and the bytes behind it make the line
 --     HasOneName command            one name is all that stands behind the command's word
@@ -23,9 +23,9 @@ use Rattle.ht_script.specs.declared.ending.Ending.TheVariants as ending
 use Rattle.ht_script.specs.declared.line.Line.{Line}
 use Rattle.ht_script.specs.declared.line.Line.TheVariants.{Group, Reduce, LetRows, LetProduct, Show, Equal, Image, Load, Basis, Order, Types, Profile, Parts, Conj, Ponds, Share}
 use Rattle.ht_script.specs.Tokens.{IsSpaces, Is, ◌▸◌}
-use Rattle.ht_script.specs.Names.{IsName, IsFile}
+use Rattle.ht_script.specs.Names.{IsName, IsFileName}
 use Rattle.ht_script.specs.Factors.{AreFactors, AreFactorsText}
-use Rattle.ht_script.specs.Lines.{IsMarked, IsNumber, AreRows, IsNamed, IsWritten, IsFileNamed}
+use Rattle.ht_script.specs.Lines.{IsCommentText, IsNumber, AreRows, IsNamed, IsWritten, IsFileNamed}
 
 abbrev pub keyword : Command → List ℕ
 keyword command.Group = codes "group"
@@ -83,19 +83,19 @@ IsSlot Number token = IsNumText token
 IsSlot Name token = IsName token
 IsSlot Equals token = Is (codes "=") token
 IsSlot Word token = IsWordText token
-IsSlot File token = IsFile token
+IsSlot File token = IsFileName token
 
-abbrev pub IsEnding : Ending → List ℕ → Type 0
-IsEnding ending.Spaces bytes = IsSpaces bytes
-IsEnding ending.Rows bytes = (IsRowsText ▸ IsSpaces) bytes
-IsEnding ending.Value bytes = (IsRowsText ▸ IsSpaces) bytes ⊎ AreFactorsText bytes
+abbrev pub IsOfEnding : Ending → List ℕ → Type 0
+IsOfEnding ending.Spaces bytes = IsSpaces bytes
+IsOfEnding ending.Rows bytes = (IsRowsText ▸ IsSpaces) bytes
+IsOfEnding ending.Value bytes = (IsRowsText ▸ IsSpaces) bytes ⊎ AreFactorsText bytes
 
-abbrev pub IsBehind : Ending → List Slot → List ℕ → Type 0
-IsBehind ending [] bytes = IsEnding ending bytes
-IsBehind ending (slot ∷ slots) bytes = (IsSlot slot ▸ IsBehind ending slots) bytes
+abbrev pub FitsSlots : Ending → List Slot → List ℕ → Type 0
+FitsSlots ending [] bytes = IsOfEnding ending bytes
+FitsSlots ending (slot ∷ slots) bytes = (IsSlot slot ▸ FitsSlots ending slots) bytes
 
 abbrev pub IsTaken : Command → List ℕ → Type 0
-IsTaken command bytes = IsBehind (ending_of command) (slots_of command) bytes
+IsTaken command bytes = FitsSlots (ending_of command) (slots_of command) bytes
 
 abbrev pub Completes : Command → Line → List ℕ → Type 0
 Completes command.Group (Group n r) bytes = (IsNumber n ▸ IsNumber r ▸ IsSpaces) bytes
@@ -126,4 +126,4 @@ abbrev pub IsKeyword : List ℕ → Type 0
 IsKeyword token = (command : Command) × (token ≡ keyword command)
 
 abbrev pub IsUnmarked : List ℕ → Type 0
-IsUnmarked bytes = (text : List ℕ) → ¬ IsMarked bytes text
+IsUnmarked bytes = (text : List ℕ) → ¬ IsCommentText bytes text

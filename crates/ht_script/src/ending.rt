@@ -1,7 +1,7 @@
 //! How lines end behind their slots.
 ghost use Rattle.ht_text.specs.Fronts.{IsRowsText, IsLongestFront};
 ghost use Rattle.ht_script.specs.Tokens.{◌▸◌, IsSpaces};
-ghost use Rattle.ht_script.specs.Slots.{IsEnding};
+ghost use Rattle.ht_script.specs.Slots.{IsOfEnding};
 
 use crate::factor::factors_front;
 use crate::token::{count_spaces, first_token};
@@ -19,7 +19,7 @@ impl Ending {
     // The length of the longest front of the bytes that some bytes of the ending have. At most eight
     // passes over them.
     pub(crate) fn front(self, bytes: &[u8]) -> usize
-        ensures { IsLongestFront (IsEnding self) bytes.now result }
+        ensures { IsLongestFront (IsOfEnding self) bytes.now result }
     {
         match self {
             Ending::Spaces => count_spaces(bytes),
@@ -31,7 +31,7 @@ impl Ending {
 
 // The length of the longest front of the bytes that rows or factors have. Eight passes over them.
 fn value_front(bytes: &[u8]) -> usize
-    ensures { IsLongestFront (IsEnding Ending.Value) bytes.now result }
+    ensures { IsLongestFront (IsOfEnding Ending.Value) bytes.now result }
 {
     last_rows_front(bytes).max(factors_front(bytes))
 }

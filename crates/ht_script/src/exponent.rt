@@ -6,7 +6,7 @@ ghost use Rattle.ht_pair.specs.Numbers.{IsWide};
 ghost use Rattle.ht_text.specs.Fronts.{IsLongestFront};
 ghost use Rattle.ht_script.specs.declared.factor.Exponent.{Exponent};
 ghost use Rattle.ht_script.specs.Factors.{IsExponent};
-ghost use Rattle.ht_script.specs.Exponents.{IsIntegerText, IsExponentText, Raises, Stands};
+ghost use Rattle.ht_script.specs.Exponents.{IsIntegerText, IsExponentText, Raises, StandsFor};
 ghost use Rattle.ht_script.specs.Tokens.{IsSpan};
 
 use crate::factor::Exponent;
@@ -61,7 +61,7 @@ fn negative(exponent: Exponent) -> Exponent
 
 // The exponent that the integer's text stands for. Two passes over it.
 fn read_integer(text: &[u8]) -> Option<Exponent>
-    ensures { MatchOption result (¬ IsIntegerText text.now) (λ exponent. Stands exponent text.now) }
+    ensures { MatchOption result (¬ IsIntegerText text.now) (λ exponent. StandsFor exponent text.now) }
 {
     if !is_integer(text) {
         return None;

@@ -1,7 +1,7 @@
 //! Names of files.
 ghost use Rattle.std.specs.Prelude.{◌↔◌, ℕ, List, IfOk, IsTrue, MatchOption};
 ghost use Rattle.ht_text.specs.Fronts.{IsLongestFront};
-ghost use Rattle.ht_script.specs.Names.{IsFile, IsFileByte, IsFileStart};
+ghost use Rattle.ht_script.specs.Names.{IsFileName, IsFileByte, IsFileStart};
 ghost use Rattle.ht_script.specs.Tokens.{IsSpan};
 ghost use Rattle.ht_script.specs.Lines.{IsFileNamed};
 
@@ -37,7 +37,7 @@ fn count_file_bytes(bytes: &[u8]) -> usize
 
 // Whether the bytes are the name of a file. Constant time.
 pub(crate) fn is_file(bytes: &[u8]) -> bool
-    ensures { IsTrue result ↔ IsFile bytes.now }
+    ensures { IsTrue result ↔ IsFileName bytes.now }
 {
     let Some((first, others)) = bytes.split_first() else {
         return false;
@@ -47,7 +47,7 @@ pub(crate) fn is_file(bytes: &[u8]) -> bool
 
 // The length of the longest front of the bytes that some file's name has. Constant time.
 pub(crate) fn file_front(bytes: &[u8]) -> usize
-    ensures { IsLongestFront IsFile bytes.now result }
+    ensures { IsLongestFront IsFileName bytes.now result }
 {
     let Some((first, others)) = bytes.split_first() else {
         return 0;

@@ -1,7 +1,7 @@
 //! The longest front of bytes that some line has.
 ghost use Rattle.ht_text.specs.Fronts.{IsLongestFront};
 ghost use Rattle.ht_script.specs.Lines.{IsLineText};
-ghost use Rattle.ht_script.specs.Slots.{IsBehind, IsUnmarked};
+ghost use Rattle.ht_script.specs.Slots.{FitsSlots, IsUnmarked};
 
 use crate::command::{Command, Slot, keyword_front};
 use crate::ending::Ending;
@@ -38,7 +38,7 @@ fn command_front(line: &[u8]) -> usize
 // The length of the longest front of the bytes that tokens for the slots and the ending behind them
 // have. At most five passes over each token and eight over the ending.
 fn slots_front(slots: &[Slot], ending: Ending, bytes: &[u8]) -> usize
-    ensures { IsLongestFront (IsBehind ending slots.now) bytes.now result }
+    ensures { IsLongestFront (FitsSlots ending slots.now) bytes.now result }
 {
     let Some((slot, later)) = slots.split_first() else {
         return ending.front(bytes);

@@ -2,7 +2,7 @@
 ghost use Rattle.std.specs.Prelude.{◌≡◌, ◌≢◌, ◌↔◌, ℕ, List, All, IsTrue, MatchOption, codes};
 ghost use Rattle.ht_text.specs.Fronts.{IsLongestFront};
 ghost use Rattle.ht_script.specs.Tokens.{Is, IsSpaces, IsSpan, IsFirstToken};
-ghost use Rattle.ht_script.specs.Lines.{IsMarked};
+ghost use Rattle.ht_script.specs.Lines.{IsCommentText};
 
 use ht_text::after;
 
@@ -46,7 +46,7 @@ pub(crate) fn first_token(bytes: &[u8]) -> Option<(usize, &[u8], &[u8])>
 
 // What is behind a `#` that has only spaces before it. One pass over the spaces.
 pub(crate) fn behind_mark(bytes: &[u8]) -> Option<&[u8]>
-    ensures { MatchOption result ((text : List ℕ) → ¬ IsMarked bytes.now text) (λ text. IsMarked bytes.now text.now) }
+    ensures { MatchOption result ((text : List ℕ) → ¬ IsCommentText bytes.now text) (λ text. IsCommentText bytes.now text.now) }
 {
     after(&bytes[count_spaces(bytes)..], b"#")
 }

@@ -16,8 +16,8 @@ use Rattle.ht_pair.specs.Steps.{Carries}
 use Rattle.ht_pair.specs.declared.row.Row.{Row}
 use Rattle.ht_types.specs.declared.sharing.Pond.{Pond}
 use Rattle.ht_quasi.proofs.StepLaws.{at_push}
+use Rattle.ht_quasi.proofs.RoundLaws.{something_at as word_at}
 use Rattle.ht_types.proofs.EntryLaws.{entry_front, entry_push}
-use Rattle.ht_types.proofs.KindsLaws.{some_at as word_at}
 use Rattle.ht_share.specs.InnerWords.{IsInner}
 use Rattle.ht_share.specs.PondLists.{HasPond, AreFound}
 use Rattle.ht_share.proofs.ReturnLaws.{none_ever, not_before, from_end}

@@ -1,5 +1,5 @@
 -- Words under the infinite part that share an orbit: their addresses tell by which power. X is a semi-normal basis of p.
-use Rattle.std.proofs.Common.{◌≡◌, ◌≢◌, ℕ, zero, suc, ◌<◌, ◌^◌, List, [], ◌++◌, Some, None, slice_get, refl, sym, ap, ◌∙◌, subst, subst₂, arith, ℤ, pos, negsuc, neg_ℤ, ◌+ℤ◌, to_z, of_z}
+use Rattle.std.proofs.Common.{◌≡◌, ℕ, ◌<◌, ◌^◌, List, [], ◌++◌, Some, None, slice_get, sym, ap, ◌∙◌, subst, subst₂, arith, ℤ, neg_ℤ, to_z, of_z}
 use Rattle.std.specs.Prelude.{◌-ℤ◌, nat_abs}
 use Rattle.std.specs.Int.{w128}
 use Rattle.std.proofs.lemmas.Int.{ints, fits_signed_from_abs, to_z-of_z}
@@ -12,7 +12,7 @@ use Rattle.ht_pair.specs.Kinds.{IsCycleWord}
 use Rattle.ht_pair.specs.Steps.{Carries}
 use Rattle.ht_pair.specs.declared.row.Row.{Row}
 use Rattle.ht_pair.proofs.BasisLaws.{basis_single}
-use Rattle.ht_pair.proofs.CarriesLaws.{carries_add, carries_back, carries_extends, carries_sum}
+use Rattle.ht_pair.proofs.CarriesLaws.{carries_back, carries_extends, carries_sum}
 use Rattle.ht_types.specs.CycleWords.{IsUnderCycle}
 use Rattle.ht_types.specs.Flows.{IsUnderInfinite}
 use Rattle.ht_types.specs.Shares.{IsShare}

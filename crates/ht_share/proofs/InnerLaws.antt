@@ -10,7 +10,7 @@ use Rattle.std.specs.declared.cmp.Ordering.TheVariants.{Less, Equal}
 use Rattle.ht_word.specs.Words.{◌·◌, child, root_word, word_cmp, IsLetter, IsLetters, IsWordOf, IsUnder, IsUnderSome, IsAscending}
 use Rattle.ht_word.specs.declared.shape.Shape.{Shape}
 use Rattle.ht_word.specs.declared.word.Word.{Word}
-use Rattle.ht_word.proofs.ListLaws.{Contains-nil, Contains-here, Contains-there, Contains-cons_cases, Contains-map, contained_in_map, AllPairs-nil, AllPairs-cons, AllPairs-append, AllPairs-from_map, AllPairs-across}
+use Rattle.ht_word.proofs.ListLaws.{Contains-nil, Contains-here, Contains-there, Contains-cons_cases, Contains-map, contained_in_map, AllPairs-nil, AllPairs-cons, AllPairs-append, AllPairs-from_map, AllPairs-across, last_same}
 use Rattle.ht_word.proofs.WordLaws.{after-append, after-nil, after_cancel, prefixes, length-after, under_trans, under_refl, word_after, word_front, word_rest, All-from_contains}
 use Rattle.ht_pair.specs.Bases.{IsBasis, longest}
 use Rattle.ht_pair.specs.Pairs.{from_words}
@@ -27,12 +27,6 @@ use Rattle.ht_share.specs.InnerWords.{IsInner, AreInner, IsLeftmost, AreAbove, I
 -- one more
 more_ones : (j : ℕ) → replicate {A = ℕ} j 1 ++ 1 ∷ [] ≡ replicate (j + 1) 1
 more_ones j = replicate-append-replicate {A = ℕ} j 1 1
-
-last_same : (xs ys : List ℕ) (a b : ℕ) → xs ++ a ∷ [] ≡ ys ++ b ∷ [] → a ≡ b
-last_same [] [] a b e = cc
-last_same [] (y ∷ ys) a b e = absurd (omega (arith, length-append ys (b ∷ []), ap (λ (t : List ℕ). length t) e))
-last_same (x ∷ xs) [] a b e = absurd (omega (arith, length-append xs (a ∷ []), ap (λ (t : List ℕ). length t) e))
-last_same (x ∷ xs) (y ∷ ys) a b e = last_same xs ys a b (cc)
 
 pub trailing_none : IsTrailing [] 0
 trailing_none = record { front = []; whole = refl; most = few }
@@ -80,12 +74,12 @@ heads-more : (u : Word) (k : ℕ) → heads u (suc k) ≡ u ∷ heads (child u 1
 unfolding heads
 heads-more u k = refl
 
-record IsHead (u : Word) (k : ℕ) (w : Word) : Type 0 where
+record IsRowHead (u : Word) (k : ℕ) (w : Word) : Type 0 where
   count : ℕ
   less : count < k
   is : w ≡ u · replicate count 1
 
-head_of : (u : Word) (k : ℕ) (w : Word) → Contains (heads u k) w → IsHead u k w
+head_of : (u : Word) (k : ℕ) (w : Word) → Contains (heads u k) w → IsRowHead u k w
 unfolding heads
 head_of u zero w c = absurd (Contains-nil w c)
 head_of u (suc k) w c = elim (Contains-cons_cases u (heads (child u 1) k) w c) [
@@ -212,12 +206,12 @@ leftmost_order shape u v y t hy l m before = elim (parted u v) [
 -- ---- all rows
 
 -- the words under X above the rows by letters 1, in order
-pub record AreFound (X : List Word) (rows : List Row) (words : List Word) : Type 0 where
+pub record AreAboveRows (X : List Word) (rows : List Row) (words : List Word) : Type 0 where
   pub ascending : IsAscending words
   pub same : (u : Word) → Contains words u → IsUnderSome u X × ((row : Row) × Contains rows row × IsLeftmost u row.from)
   pub all : (u : Word) (row : Row) → IsUnderSome u X → Contains rows row → IsLeftmost u row.from → Contains words u
 
-found_more : (shape : Shape) (X : List Word) (rows : List Row) (row : Row) (words more : List Word) → ((other : Row) → Contains rows other → IsWordOf shape other.from × IsBefore other.from row.from) → AreFound X rows words → AreAbove X row.from more → AreFound X (rows ++ row ∷ []) (words ++ more)
+found_more : (shape : Shape) (X : List Word) (rows : List Row) (row : Row) (words more : List Word) → ((other : Row) → Contains rows other → IsWordOf shape other.from × IsBefore other.from row.from) → AreAboveRows X rows words → AreAbove X row.from more → AreAboveRows X (rows ++ row ∷ []) (words ++ more)
 found_more shape X rows row words more before f a = record {
   ascending = AllPairs-append (λ u v. word_cmp u v ≡ Less) words more f.ascending a.ascending (λ u v c e.
       let g = (f.same u c).1 in
@@ -254,10 +248,10 @@ row_under shape p X y h given same i row within is =
 
 -- and adds the words above it
 pub found_next : (shape : Shape) (p : List Row) (X : List Word) (y : List Row) → IsYOf shape p X y → (given : List Row) → given ≡ y → (i : ℕ) (row : Row) → i < length given → row ≡ get_or given i row
-    → (words new more : List Word) → AreAbove X row.from more → new ≡ words ++ more → AreFound X (take i given) words → AreFound X (take (i + 1) given) new
+    → (words new more : List Word) → AreAbove X row.from more → new ≡ words ++ more → AreAboveRows X (take i given) words → AreAboveRows X (take (i + 1) given) new
 found_next shape p X y h given same i row within is words new more a added f =
     let next : take (i + 1) given ≡ take i given ++ row ∷ [] = take_more given i row within ∙ ap (λ r. take i given ++ r ∷ []) (sym is) in
-    subst (λ z. AreFound X z new) (sym next) (subst (AreFound X (take i given ++ row ∷ [])) (sym added)
+    subst (λ z. AreAboveRows X z new) (sym next) (subst (AreAboveRows X (take i given ++ row ∷ [])) (sym added)
     (found_more shape X (take i given) row words more (rows_before shape p X given (subst (IsYOf shape p X) (sym same) h) i row within is) f a))
 
 -- ---- inner words
@@ -302,7 +296,7 @@ leftmost_inner shape p X y h u row under c l =
           omega (arith, length-after u (replicate l.count 1), length-replicate {A = ℕ} l.count 1, length-after k.above k.under.rest, ap (λ (w : Word). length w.letters) l.whole, ap (λ (w : Word). length w.letters) k.under.is, ap (λ (w : Word). length w.letters) one);
     }
 
-pub found_inner : (shape : Shape) (p : List Row) (X : List Word) (y : List Row) (words : List Word) → IsYOf shape p X y → AreFound X y words → AreInner shape p X words
+pub found_inner : (shape : Shape) (p : List Row) (X : List Word) (y : List Row) (words : List Word) → IsYOf shape p X y → AreAboveRows X y words → AreInner shape p X words
 found_inner shape p X y words h f = record {
   ascending = f.ascending;
   same = λ u. (

@@ -24,19 +24,19 @@ pond_once shape p pair X u v w j k a b =
     (same, carries_single shape p pair (pos k) u v w (subst (λ i. Carries shape p (pos i) u v) same a.carries) b.carries)
 
 -- the ponds of the words
-pub record AreListed (shape : Shape) (p : List Row) (X words : List Word) (ponds : List Pond) : Type 0 where
+pub record ArePondsOf (shape : Shape) (p : List Row) (X words : List Word) (ponds : List Pond) : Type 0 where
   pub ascending : IsAscending (first_words ponds)
   pub each : (pond : Pond) → Contains ponds pond → Contains words pond.from × IsPond shape p X pond.from pond.steps pond.to
   pub all : (u : Word) (k : ℕ) (v : Word) → Contains words u → IsPond shape p X u k v → Contains ponds (record { from = u; steps = k; to = v })
 
-pub listed_none : (shape : Shape) (p : List Row) (X : List Word) → AreListed shape p X [] []
+pub listed_none : (shape : Shape) (p : List Row) (X : List Word) → ArePondsOf shape p X [] []
 listed_none shape p X = record {
   ascending = AllPairs-nil (λ s t. word_cmp s t ≡ Less);
   each = λ pond c. absurd (Contains-nil pond c);
   all = λ u k v c pond. absurd (Contains-nil u c);
 }
 
-listed_more : (shape : Shape) (p : List Row) → IsPair shape p → (X words : List Word) (u : Word) (ponds : List Pond) (found : Option Pond) → ((w : Word) → Contains words w → word_cmp w u ≡ Less) → HasPond shape p X u found → AreListed shape p X words ponds → AreListed shape p X (words ++ u ∷ []) (ponds ++ option_to_list found)
+listed_more : (shape : Shape) (p : List Row) → IsPair shape p → (X words : List Word) (u : Word) (ponds : List Pond) (found : Option Pond) → ((w : Word) → Contains words w → word_cmp w u ≡ Less) → HasPond shape p X u found → ArePondsOf shape p X words ponds → ArePondsOf shape p X (words ++ u ∷ []) (ponds ++ option_to_list found)
 listed_more shape p pair X words u ponds None before none l = record {
   ascending = subst (λ t. IsAscending (first_words t)) (sym (append-nil ponds)) l.ascending;
   each = λ pond c. let g = l.each pond (subst (λ t. Contains t pond) (append-nil ponds) c) in (Contains-append_left words (u ∷ []) pond.from g.0, g.1);
@@ -83,17 +83,17 @@ listed_more shape p pair X words u ponds (Some new) before has l = record {
 
 -- as the code reads the words
 pub listed_next : (shape : Shape) (p : List Row) → IsPair shape p → (X words : List Word) → IsAscending words → (i : ℕ) (u : Word) → i < length words → u ≡ get_or words i u → (ponds new : List Pond) (found : Option Pond) → HasPond shape p X u found → new ≡ ponds ++ option_to_list found
-    → AreListed shape p X (take i words) ponds → AreListed shape p X (take (i + 1) words) new
+    → ArePondsOf shape p X (take i words) ponds → ArePondsOf shape p X (take (i + 1) words) new
 listed_next shape p pair X words ascending i u within is ponds new found has added l =
     let back = drop i words in
     let split : take i words ++ back ≡ words = take-append-drop i words in
     let here : back ≡ u ∷ drop (i + 1) words = drop_more words i u within ∙ ap (λ w. w ∷ drop (i + 1) words) (sym is) in
     let next : take (i + 1) words ≡ take i words ++ u ∷ [] = take_more words i u within ∙ ap (λ w. take i words ++ w ∷ []) (sym is) in
-    subst (λ W. AreListed shape p X W new) (sym next) (subst (AreListed shape p X (take i words ++ u ∷ [])) (sym added)
+    subst (λ W. ArePondsOf shape p X W new) (sym next) (subst (ArePondsOf shape p X (take i words ++ u ∷ [])) (sym added)
     (listed_more shape p pair X (take i words) u ponds found (λ w c. AllPairs-across (λ s t. word_cmp s t ≡ Less) (take i words) back (subst (AllPairs (λ s t. word_cmp s t ≡ Less)) (sym split) ascending) w u c (subst (λ W. Contains W u) (sym here) (Contains-here u (drop (i + 1) words)))) has l))
 
 -- the ponds of the inner words are all ponds
-pub listed_all : (shape : Shape) (p : List Row) (X words : List Word) (ponds : List Pond) → AreInner shape p X words → AreListed shape p X words ponds → ArePonds shape p X ponds
+pub listed_all : (shape : Shape) (p : List Row) (X words : List Word) (ponds : List Pond) → AreInner shape p X words → ArePondsOf shape p X words ponds → ArePonds shape p X ponds
 listed_all shape p X words ponds inner l = record {
   ascending = l.ascending;
   same = λ u k v. (

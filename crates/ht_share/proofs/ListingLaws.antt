@@ -6,12 +6,12 @@ use Rattle.ht_word.specs.declared.shape.Shape.{Shape}
 use Rattle.ht_word.specs.declared.word.Word.{Word}
 use Rattle.ht_pair.specs.Pairs.{IsPair}
 use Rattle.ht_pair.specs.declared.row.Row.{Row}
+use Rattle.ht_quasi.proofs.RoundLaws.{something_at as word_at}
 use Rattle.ht_types.specs.declared.sharing.Pond.{Pond}
-use Rattle.ht_types.proofs.KindsLaws.{some_at as word_at}
 use Rattle.ht_share.specs.InnerWords.{AreInner}
 use Rattle.ht_share.specs.PondLists.{ArePonds, AreFound}
 use Rattle.ht_share.proofs.FoundLaws.{found_last}
-use Rattle.ht_share.proofs.ListedLaws.{AreListed, listed_next, listed_all}
+use Rattle.ht_share.proofs.ListedLaws.{ArePondsOf, listed_next, listed_all}
 
 -- the ponds of the first inner words are listed, and those of the others found
 pub record IsListing (shape : Shape) (p : List Row) (X : List Word) (ponds : List Pond) (found : List (Option Pond)) : Type 0 where
@@ -19,7 +19,7 @@ pub record IsListing (shape : Shape) (p : List Row) (X : List Word) (ponds : Lis
   pub all : AreInner shape p X inner
   pub done : ℕ
   pub within : done ≤ length inner
-  pub listed : AreListed shape p X (take done inner) ponds
+  pub listed : ArePondsOf shape p X (take done inner) ponds
   pub left : AreFound shape p X (drop done inner) found
 
 pub listing_next : (shape : Shape) (p : List Row) → IsPair shape p → (X : List Word) (ponds new : List Pond) (found : List (Option Pond)) (last : Option Pond) → IsListing shape p X ponds (found ++ last ∷ []) → new ≡ ponds ++ option_to_list last → IsListing shape p X new found
@@ -41,4 +41,4 @@ listing_next shape p pair X ponds new found last l added =
 
 pub listing_done : (shape : Shape) (p : List Row) (X : List Word) (ponds : List Pond) (found : List (Option Pond)) → length found ≡ 0 → IsListing shape p X ponds found → ArePonds shape p X ponds
 listing_done shape p X ponds found none l =
-    listed_all shape p X l.inner ponds l.all (subst (λ W. AreListed shape p X W ponds) (take_all l.done l.inner (omega (arith, none, l.within, l.left.many, length-drop l.done l.inner))) l.listed)
+    listed_all shape p X l.inner ponds l.all (subst (λ W. ArePondsOf shape p X W ponds) (take_all l.done l.inner (omega (arith, none, l.within, l.left.many, length-drop l.done l.inner))) l.listed)

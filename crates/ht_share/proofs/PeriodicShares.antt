@@ -46,17 +46,17 @@ met shape p pair u v m positive round (negsuc k) c =
 -- ---- going round
 
 -- so many steps lead from u to the word, and no fewer lead to v
-pub record IsOnRound (shape : Shape) (p : List Row) (u v word : Word) (steps : ℕ) : Type 0 where
+pub record IsBeforeOnCycle (shape : Shape) (p : List Row) (u v word : Word) (steps : ℕ) : Type 0 where
   pub carries : Carries shape p (pos steps) u word
   pub before : (j : ℕ) → j < steps → ¬ Carries shape p (pos j) u v
 
-pub round_moves : (shape : Shape) (p : List Row) → IsCanonical shape p → (X : List Word) → IsSemiNormal shape p X → (u v word : Word) (m steps : ℕ) → IsWordOf shape u → IsUnderCycle shape p X u m → IsOnRound shape p u v word steps → (next : Word) × Moves p word next
+pub round_moves : (shape : Shape) (p : List Row) → IsCanonical shape p → (X : List Word) → IsSemiNormal shape p X → (u v word : Word) (m steps : ℕ) → IsWordOf shape u → IsUnderCycle shape p X u m → IsBeforeOnCycle shape p u v word steps → (next : Word) × Moves p word next
 round_moves shape p canonical X semi u v word m steps hu c on =
     let far = under_cycle_moved shape p canonical.pair X semi (pos (suc steps)) u m hu c in
     let next = far.0.word · c.under.rest in
     (next, carried_moves shape p canonical word next (carries_rest shape p canonical.pair (pos steps) (pos 1) (pos (suc steps)) (omega (arith, ints)) u word next on.carries far.1))
 
-pub round_on : (shape : Shape) (p : List Row) → IsCanonical shape p → (u v word next : Word) (steps : ℕ) → IsOnRound shape p u v word steps → word ≢ v → Moves p word next → IsOnRound shape p u v next (suc steps)
+pub round_on : (shape : Shape) (p : List Row) → IsCanonical shape p → (u v word next : Word) (steps : ℕ) → IsBeforeOnCycle shape p u v word steps → word ≢ v → Moves p word next → IsBeforeOnCycle shape p u v next (suc steps)
 round_on shape p canonical u v word next steps on other moves = record {
   carries = carries_sum shape p canonical.pair (pos steps) (pos 1) (pos (suc steps)) (omega (arith, ints)) u word next on.carries (moved_carries shape p canonical word next (carries_word shape p canonical.pair (pos steps) u word on.carries) moves);
   before = λ j l c. elim (cases_lt j steps) [
@@ -66,7 +66,7 @@ round_on shape p canonical u v word next steps on other moves = record {
 }
 
 -- v is met
-pub round_meets : (shape : Shape) (p : List Row) (X : List Word) (u v word : Word) (steps : ℕ) → steps < 2 ^ 64 → IsOnRound shape p u v word steps → word ≡ v → IsShare shape p X u v (Some (pos steps))
+pub round_meets : (shape : Shape) (p : List Row) (X : List Word) (u v word : Word) (steps : ℕ) → steps < 2 ^ 64 → IsBeforeOnCycle shape p u v word steps → word ≡ v → IsShare shape p X u v (Some (pos steps))
 round_meets shape p X u v word steps few on e = (
   subst (Carries shape p (pos steps) u) e on.carries,
   bound steps few,
@@ -84,7 +84,7 @@ round_meets shape p X u v word steps few on e = (
     bound n l = omega arith
 
 -- v is not met in a whole round
-pub round_ends : (shape : Shape) (p : List Row) → IsPair shape p → (X : List Word) (u v word : Word) (m : ℕ) → IsWordOf shape u → IsUnderCycle shape p X u m → IsOnRound shape p u v word m → IsShare shape p X u v None
+pub round_ends : (shape : Shape) (p : List Row) → IsPair shape p → (X : List Word) (u v word : Word) (m : ℕ) → IsWordOf shape u → IsUnderCycle shape p X u m → IsBeforeOnCycle shape p u v word m → IsShare shape p X u v None
 round_ends shape p pair X u v word m hu c on = λ k carries.
     let s = met shape p pair u v m c.cycle.positive (under_cycle_home shape p X u m hu c) k carries in
     on.before s.steps s.within s.carries

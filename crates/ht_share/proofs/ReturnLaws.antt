@@ -17,7 +17,8 @@ use Rattle.ht_pair.specs.Steps.{Carries}
 use Rattle.ht_pair.specs.declared.row.Row.{Row}
 use Rattle.ht_pair.proofs.BasisLaws.{basis_single, some_at}
 use Rattle.ht_pair.proofs.CarriesLaws.{carries_single, carries_word, carries_itself, carries_extends, carries_back, carries_rest, carries_sum}
-use Rattle.ht_pair.proofs.KindLaws.{repeated, length-repeated, carries_times}
+use Rattle.ht_pair.specs.Repeats.{repeated}
+use Rattle.ht_pair.proofs.KindLaws.{length-repeated, carries_times}
 use Rattle.ht_quasi.proofs.StepLaws.{listed_at}
 use Rattle.ht_types.specs.declared.direction.Direction.TheVariants.{Ahead}
 use Rattle.ht_types.specs.declared.exit.Exit.{Exit}

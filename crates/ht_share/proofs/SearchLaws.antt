@@ -22,15 +22,15 @@ use Rattle.ht_types.specs.declared.walk.Walk.{Walk}
 use Rattle.ht_types.specs.Flows.{IsEndKind, IsExit, IsUnderInfinite}
 use Rattle.ht_types.specs.TypedElements.{TypedValue, IsTyped}
 use Rattle.ht_types.specs.WordKinds.{HasKind}
-use Rattle.ht_types.proofs.KindsLaws.{some_at as word_at}
 use Rattle.ht_types.proofs.SeenLaws.{open_kind}
 use Rattle.ht_types.proofs.StopLaws.{few_words}
 use Rattle.ht_types.proofs.OnwardLaws.{early_under}
 use Rattle.ht_types.proofs.PeriodicLaws.{cycle_under}
 use Rattle.ht_types.proofs.TurnLaws.{HasSemiNormal}
 use Rattle.ht_types.proofs.AttractorLaws.{period_small, attractor_ahead}
-use Rattle.ht_flow.proofs.FlowingLaws.{typed_base}
+use Rattle.ht_types.proofs.TypedLaws.{typed_base}
 use Rattle.ht_quasi.proofs.StepLaws.{listed_at}
+use Rattle.ht_quasi.proofs.RoundLaws.{something_at as word_at}
 use Rattle.ht_share.specs.InnerWords.{IsInner}
 use Rattle.ht_share.specs.PondWalks.{IsSettled, IsEnough}
 

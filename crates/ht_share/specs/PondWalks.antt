@@ -28,7 +28,7 @@ IsNone shape p X u k = (j : ℕ) → 1 ≤ j → j ≤ k → ¬ CarriesUnder sha
 
 pub record IsNext (shape : Shape) (p : List Row) (X : List Word) (walk next : Walk) : Type 0 where
   pub steps : next.steps ≡ walk.steps + 1
-  pub leads : (x : Word) → slice_get X walk.to ≡ Some x → LeadsTo shape p X (x · walk.rest) next.to next.rest
+  pub leads : (x : Word) → slice_get X walk.to ≡ Some x → LeadsTo shape p X (pos 1) (x · walk.rest) next.to next.rest
 
 pub record IsSettled (shape : Shape) (p : List Row) (X : List Word) (count : ℕ) (walk : Walk) : Type 0 where
   pub above : Word

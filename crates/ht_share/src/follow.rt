@@ -44,7 +44,7 @@ fn further(
     ensures { IfOk result (IsFurther t.now.element.shape t.now.element.rows t.now.quasi.basis.words u.now walk.now.steps steps) }
 {
     t.keeps_kinds();
-    if let Step::Leads { to, rest } = next_of(alloc, t, t.element(), Direction::Ahead, walk)? {
+    if let Step::Leads { to, rest } = next_of(alloc, t, Direction::Ahead, walk)? {
         return Ok(Some(Walk {
             steps: walk.steps + 1,
             to,

@@ -34,7 +34,7 @@ pub(crate) fn pond_of(
     if is_on_repeller(t, word, &walk) {
         return Ok(None);
     }
-    let exit = exit_of(alloc, t, t.element(), Direction::Ahead, word)?;
+    let exit = exit_of(alloc, t, Direction::Ahead, word)?;
     let most = steps_enough(t, word, &exit);
     walk.rest.extend(exit.letters.as_slice())?;
     for _step in 0..most {
@@ -78,7 +78,7 @@ fn next_walk(alloc: Global, t: &Typed, walk: &Walk) -> Result<Walk, NoMemory>
     requires few { walk.now.steps < 2 ^ 122 }
     ensures { IfOk result (IsNext t.now.element.shape t.now.element.rows t.now.quasi.basis.words walk.now) }
 {
-    let Step::Leads { to, rest } = next_of(alloc, t, t.element(), Direction::Ahead, walk)? else {
+    let Step::Leads { to, rest } = next_of(alloc, t, Direction::Ahead, walk)? else {
         unreachable!()
     };
     Ok(Walk {

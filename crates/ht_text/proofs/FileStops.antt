@@ -8,7 +8,7 @@ use Rattle.ht_word.specs.Words.{root_word}
 use Rattle.ht_pair.specs.declared.row.Row.{Row}
 use Rattle.ht_text.specs.Texts.{IsDigitLetter, HasText, HasRowText, HasRowsText, row_text}
 use Rattle.ht_text.specs.Files.{row_lines, file_text, IsFile, ended}
-use Rattle.ht_text.specs.FileLines.{head_line, group_line, count_line, end_line, file_lines, IsGroupFront, IsCountFront, IsHead, IsRowFront, IsNoEnd, HasBehindEnd, LeadsNoFurther}
+use Rattle.ht_text.specs.FileLines.{head_line, group_line, count_line, end_line, file_lines, IsGroupFront, IsCountFront, IsFileHead, IsRowFront, IsNoEnd, HasBehindEnd, LeadsNoFurther}
 use Rattle.ht_text.proofs.Numbers.{same_decimal}
 use Rattle.ht_text.proofs.LineLaws.{item_within, Excluded, excluded_by_first}
 use Rattle.ht_text.proofs.FileLaws.{HasFile, row_lines_are, text_is_lines, Leads, leads_begin, leads_no_further}
@@ -116,7 +116,7 @@ stop_at_count bytes text rest n r e g none =
     (λ after is. none (length rows) after (record { some = h.some; few = h.few; is = is }))))
 
 -- the numbers of a head
-pub head_numbers : (bytes : List ℕ) (n r k : ℕ) (text : List ℕ) → IsHead bytes n r k text → AreNumbers n r k
+pub head_numbers : (bytes : List ℕ) (n r k : ℕ) (text : List ℕ) → IsFileHead bytes n r k text → AreNumbers n r k
 head_numbers bytes n r k text h = record { n_small = h.n_small; r_small = h.r_small; some = h.some; few = h.few }
 
 -- the rows of lines that were read, and the rest of the bytes
@@ -138,7 +138,7 @@ regroup_front : (a b c d e : List ℕ) → (a ++ (b ++ (c ++ d))) ++ e ≡ a ++ 
 regroup_front a b c d e = simp append_assoc
 
 -- the bytes are the lines of the head and of the rows, and the rest
-pub front_bytes : (bytes : List ℕ) (n r k : ℕ) (text : List ℕ) (rows : List Row) (rest : List ℕ) → IsHead bytes n r k text → HasReadLines text rows rest → bytes ≡ ended (front_lines n r k rows) ++ rest
+pub front_bytes : (bytes : List ℕ) (n r k : ℕ) (text : List ℕ) (rows : List Row) (rest : List ℕ) → IsFileHead bytes n r k text → HasReadLines text rows rest → bytes ≡ ended (front_lines n r k rows) ++ rest
 front_bytes bytes n r k text rows rest h g =
     h.is ∙ ap (λ t. (head_line ++ codes "\n") ++ ((group_line n r ++ codes "\n") ++ ((count_line k ++ codes "\n") ++ t))) (g.is ∙ ap (λ t. t ++ rest) (row_lines_are rows))
     ∙ sym (regroup_front (head_line ++ codes "\n") (group_line n r ++ codes "\n") (count_line k ++ codes "\n") (ended (map row_text rows)) rest)
@@ -190,7 +190,7 @@ front_number : (n r k : ℕ) (rows : List Row) → length (front_lines n r k row
 front_number n r k rows = omega (arith, length-map rows row_text)
 
 -- without the line of a row there are those before it
-pub stop_at_row : (bytes : List ℕ) (n r k : ℕ) (text : List ℕ) (rows : List Row) (rest : List ℕ) → IsHead bytes n r k text → HasReadLines text rows rest → length rows < k
+pub stop_at_row : (bytes : List ℕ) (n r k : ℕ) (text : List ℕ) (rows : List Row) (rest : List ℕ) → IsFileHead bytes n r k text → HasReadLines text rows rest → length rows < k
     → ((row : Row) (behind : List ℕ) → ¬ IsRowFront rest row behind) → LeadsNoFurther bytes (length rows + 3)
 stop_at_row bytes n r k text rows rest h g few none =
     subst (λ j. LeadsNoFurther bytes j) (front_number n r k rows)
@@ -204,7 +204,7 @@ stop_at_row bytes n r k text rows rest h g few none =
     (excluded_by_first rest (row_text first.row) first.others first.some (λ after is. none first.row after (record { has_text = first.has_text; is = is })))))
 
 -- without the last line there are those of the rows
-pub stop_at_end : (bytes : List ℕ) (n r k : ℕ) (text : List ℕ) (rows : List Row) (rest : List ℕ) → IsHead bytes n r k text → HasReadLines text rows rest → length rows ≡ k → IsNoEnd rest
+pub stop_at_end : (bytes : List ℕ) (n r k : ℕ) (text : List ℕ) (rows : List Row) (rest : List ℕ) → IsFileHead bytes n r k text → HasReadLines text rows rest → length rows ≡ k → IsNoEnd rest
     → LeadsNoFurther bytes (length rows + 3)
 stop_at_end bytes n r k text rows rest h g whole none =
     subst (λ j. LeadsNoFurther bytes j) (front_number n r k rows)
@@ -215,7 +215,7 @@ stop_at_end bytes n r k text rows rest h g whole none =
     subst (Excluded rest) (last_line rows all more (behind.number ∙ sym whole) behind.lines) (none.not_bare, none.not_ended)))
 
 -- with more behind the last line there are all
-pub stop_behind_end : (bytes : List ℕ) (n r k : ℕ) (text : List ℕ) (rows : List Row) (rest : List ℕ) → IsHead bytes n r k text → HasReadLines text rows rest → length rows ≡ k → HasBehindEnd rest
+pub stop_behind_end : (bytes : List ℕ) (n r k : ℕ) (text : List ℕ) (rows : List Row) (rest : List ℕ) → IsFileHead bytes n r k text → HasReadLines text rows rest → length rows ≡ k → HasBehindEnd rest
     → LeadsNoFurther bytes (length rows + 4)
 stop_behind_end bytes n r k text rows rest h g whole after =
     let count : length (front_lines n r k rows ++ end_line ∷ []) ≡ length rows + 4 = omega (arith, length-append (front_lines n r k rows) (end_line ∷ []), front_number n r k rows) in
@@ -231,7 +231,7 @@ stop_behind_end bytes n r k text rows rest h g whole after =
     subst (Excluded after.behind) none after.some))
 
 -- the end of a file behind all rows makes one
-pub whole_file : (bytes : List ℕ) (n r k : ℕ) (text : List ℕ) (rows : List Row) (rest : List ℕ) → IsHead bytes n r k text → HasReadLines text rows rest → length rows ≡ k
+pub whole_file : (bytes : List ℕ) (n r k : ℕ) (text : List ℕ) (rows : List Row) (rest : List ℕ) → IsFileHead bytes n r k text → HasReadLines text rows rest → length rows ≡ k
     → (rest ≡ end_line) ⊎ (rest ≡ end_line ++ 10 ∷ []) → IsFile bytes n r rows
 whole_file bytes n r k text rows rest h g whole last = record {
   n_small = h.n_small;

@@ -1,12 +1,13 @@
 -- Texts of files: no bytes are two files, and the rows of an element have a file.
-use Rattle.std.proofs.Common.{◌≡◌, ◌<◌, ◌≤◌, ◌^◌, ◌+◌, ◌⊎◌, inl, inr, ℕ, List, [], ◌∷◌, ◌++◌, length, take, get_or, refl, sym, ap, ◌∙◌, subst, arith, append-nil, append_assoc, length-append}
+use Rattle.std.proofs.Common.{◌≡◌, ◌<◌, ◌≤◌, ◌^◌, ◌+◌, ◌⊎◌, inl, inr, ℕ, List, [], ◌∷◌, ◌++◌, length, take, get_or, refl, sym, ap, ◌∙◌, subst, arith, append-nil, append_assoc}
 use Rattle.std.specs.Prelude.{codes, decimal, map}
-use Rattle.std.proofs.lemmas.List.{append_cancel_right, length-map, get_or_push, flat_map_more, take_more}
+use Rattle.std.proofs.lemmas.List.{append_cancel_right, length-map, flat_map_more, take_more}
 use Rattle.std.proofs.lemmas.List.Elements.{All-nil, All-head, All-tail, at_from_Contains}
 use Rattle.ht_word.specs.declared.word.Word.{Word}
 use Rattle.ht_word.specs.declared.shape.Shape.{Shape}
 use Rattle.ht_word.specs.Words.{◌·◌, IsLetter, IsWordOf, root_word}
 use Rattle.ht_word.proofs.WordLaws.{ones, length-ones, ones_letters, word_after, length-after}
+use Rattle.ht_word.proofs.ListLaws.{last_same}
 use Rattle.ht_pair.specs.declared.row.Row.{Row}
 use Rattle.ht_pair.specs.Bases.{longest, IsBasis}
 use Rattle.ht_pair.specs.Pairs.{from_words}
@@ -23,12 +24,6 @@ use Rattle.ht_text.proofs.RowTexts.{same_row}
 use Rattle.ht_text.proofs.LineLaws.{item_within, goes_on}
 use Rattle.ht_text.proofs.FileFronts.{number_free, group_parts}
 use Rattle.ht_text.proofs.FileLaws.{HasFile, has_file, lines_free, text_is_lines}
-
--- lists with one item behind them that are equal have equal last items
-same_last : (xs ys : List ℕ) (x y : ℕ) → xs ++ x ∷ [] ≡ ys ++ y ∷ [] → x ≡ y
-same_last xs ys x y e =
-    let count : length xs ≡ length ys = omega (arith, ap (λ t. length t) e, length-append xs (x ∷ []), length-append ys (y ∷ [])) in
-    sym (get_or_push xs x 0 (length xs) refl) ∙ ap (λ t. get_or t (length xs) 0) e ∙ get_or_push ys y 0 (length xs) (sym count)
 
 -- no lines behind a text are no lines
 no_lines : (more : List (List ℕ)) → [] ≡ ended more ++ [] → [] ≡ more
@@ -81,7 +76,7 @@ same_values n r m s p q g h e =
 not_both : (bytes a b : List ℕ) → bytes ≡ a ++ codes "end\n" → ¬ (bytes ++ 10 ∷ [] ≡ b ++ codes "end\n")
 not_both bytes a b e f =
     let bare : bytes ≡ b ++ codes "end" = append_cancel_right bytes (b ++ codes "end") (10 ∷ []) (f ∙ sym (append_assoc b (codes "end") (10 ∷ []))) in
-    let last = same_last (a ++ codes "end") (b ++ codes "en") 10 100
+    let last = last_same (a ++ codes "end") (b ++ codes "en") 10 100
     (append_assoc a (codes "end") (10 ∷ []) ∙ sym e ∙ bare ∙ sym (append_assoc b (codes "en") (100 ∷ []))) in
     absurd (omega (arith, last))
 

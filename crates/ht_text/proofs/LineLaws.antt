@@ -16,14 +16,14 @@ pub first_line : (line : List ℕ) (lines : List (List ℕ)) (rest : List ℕ) �
 first_line line lines rest = append_assoc (line ++ 10 ∷ []) (ended lines) rest ∙ append_assoc line (10 ∷ []) (ended lines ++ rest)
 
 -- longer are lines and more behind them, which rest begins with
-pub record GoesOn (lines longer : List (List ℕ)) (rest behind : List ℕ) : Type 0 where
+pub record HasMoreLines (lines longer : List (List ℕ)) (rest behind : List ℕ) : Type 0 where
   pub more : List (List ℕ)
   pub is : longer ≡ lines ++ more
   pub bytes : rest ≡ ended more ++ behind
 
 -- `goes_on`, by recursion
 go_on : (lines longer : List (List ℕ)) (rest behind : List ℕ) → AllByRecursion (IsFree 10) lines → AllByRecursion (IsFree 10) longer → (length lines ≤ length longer) ⊎ (behind ≡ [])
-    → ended lines ++ rest ≡ ended longer ++ behind → GoesOn lines longer rest behind
+    → ended lines ++ rest ≡ ended longer ++ behind → HasMoreLines lines longer rest behind
 go_on [] longer rest behind p q few e = record { more = longer; is = refl; bytes = e }
 go_on (line ∷ lines) [] rest behind p q (inl few) e = absurd (omega arith)
 go_on (line ∷ lines) [] rest behind p q (inr none) e = absurd (item_within line (ended lines ++ rest) 10 (sym (first_line line lines rest) ∙ e ∙ none))
@@ -40,7 +40,7 @@ go_on (line ∷ lines) (other ∷ longer) rest behind p q few e =
 
 -- of two fronts of lines of the same bytes the one that is no shorter goes on the other, and so do all lines of the bytes
 pub goes_on : (lines longer : List (List ℕ)) (rest behind : List ℕ) → AreOneLine lines → AreOneLine longer → (length lines ≤ length longer) ⊎ (behind ≡ [])
-    → ended lines ++ rest ≡ ended longer ++ behind → GoesOn lines longer rest behind
+    → ended lines ++ rest ≡ ended longer ++ behind → HasMoreLines lines longer rest behind
 goes_on lines longer rest behind p q few e =
     go_on lines longer rest behind (recursion_from_All (IsFree 10) lines p) (recursion_from_All (IsFree 10) longer q) few e
 

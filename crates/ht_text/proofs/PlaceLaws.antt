@@ -7,7 +7,7 @@ use Rattle.ht_text.specs.declared.place.Place.{Place}
 use Rattle.ht_text.specs.declared.place.Place.TheVariants.{Start, Mark, Root, Point, Letters}
 use Rattle.ht_text.specs.declared.place.Spot.{Spot}
 use Rattle.ht_text.specs.declared.place.Spot.TheVariants.{From, To}
-use Rattle.ht_text.specs.Places.{AreSomeLetterBytes, EndsWord, EndsRoot, Follows, FollowsIn, EndsRow, EndsFrom, FollowsRows}
+use Rattle.ht_text.specs.Places.{AreSomeLetterBytes, EndsWord, EndsRoot, CompletesWord, CompletesWith, EndsRow, EndsFromWord, FollowsRows}
 use Rattle.ht_text.proofs.Numbers.{value_of_digit}
 
 -- the bytes of digits
@@ -71,7 +71,7 @@ pub root_stop : (room b : ℕ) (rest : List ℕ) → b ≢ 46 → ¬ ((1 ≤ roo
 root_stop room b rest other none h = let more = root_more room b rest other h in none (more.room_left, more.low, more.high)
 
 -- in a word there is no `>` and no `;`
-pub no_mark : (place : Place) (b : ℕ) (rest : List ℕ) → 57 < b → b < 120 → ¬ Follows place (b ∷ rest)
+pub no_mark : (place : Place) (b : ℕ) (rest : List ℕ) → 57 < b → b < 120 → ¬ CompletesWord place (b ∷ rest)
 no_mark Start b rest low high h = let is : b ≡ 120 = h.0 in omega arith
 no_mark Mark b rest low high h = let is : b ≤ 57 = h.0.1 in omega arith
 no_mark (Root room) b rest low high h = let is : b ≤ 57 = (root_more room b rest (λ e. absurd (omega arith)) h).high in omega arith
@@ -79,19 +79,19 @@ no_mark Point b rest low high h = let is : b ≤ 57 = h.0.1 in omega arith
 no_mark Letters b rest low high h = let is : b ≤ 57 = h.0.1 in omega arith
 
 -- the first byte is behind the word
-mark_behind : (Ends : List ℕ → Type 0) (place : Place) (b : ℕ) (word behind rest : List ℕ) → ((t : List ℕ) → ¬ Follows place (b ∷ t)) → Follows place word → Ends behind → b ∷ rest ≡ word ++ behind
-    → Follows place [] × Ends (b ∷ rest)
+mark_behind : (Ends : List ℕ → Type 0) (place : Place) (b : ℕ) (word behind rest : List ℕ) → ((t : List ℕ) → ¬ CompletesWord place (b ∷ t)) → CompletesWord place word → Ends behind → b ∷ rest ≡ word ++ behind
+    → CompletesWord place [] × Ends (b ∷ rest)
 mark_behind Ends place b [] behind rest stop follows ends e = (follows, subst Ends (sym e) ends)
-mark_behind Ends place b (c ∷ word) behind rest stop follows ends e = let same : c ≡ b = cc in absurd (stop word (subst (λ t. Follows place (t ∷ word)) same follows))
+mark_behind Ends place b (c ∷ word) behind rest stop follows ends e = let same : c ≡ b = cc in absurd (stop word (subst (λ t. CompletesWord place (t ∷ word)) same follows))
 
 -- a byte that can't go on with a word ends it, where the word is whole
-pub word_ends : (Ends Next : List ℕ → Type 0) (place : Place) (b : ℕ) (rest : List ℕ) → ((t : List ℕ) → ¬ Follows place (b ∷ t)) → Follows place [] → Ends (b ∷ rest) ↔ Next rest
-    → FollowsIn Ends place (b ∷ rest) ↔ Next rest
+pub word_ends : (Ends Next : List ℕ → Type 0) (place : Place) (b : ℕ) (rest : List ℕ) → ((t : List ℕ) → ¬ CompletesWord place (b ∷ t)) → CompletesWord place [] → Ends (b ∷ rest) ↔ Next rest
+    → CompletesWith Ends place (b ∷ rest) ↔ Next rest
 word_ends Ends Next place b rest stop whole step =
     ((λ h. step.0 (mark_behind Ends place b h.word h.behind rest stop h.follows h.ends h.is).1), (λ h. record { word = []; follows = whole; behind = b ∷ rest; ends = step.1 h; is = refl }))
 
 -- and else it can't stand there
-pub no_end : (Ends : List ℕ → Type 0) (place : Place) (b : ℕ) (rest : List ℕ) → ((t : List ℕ) → ¬ Follows place (b ∷ t)) → ¬ Follows place [] → ¬ FollowsIn Ends place (b ∷ rest)
+pub no_end : (Ends : List ℕ → Type 0) (place : Place) (b : ℕ) (rest : List ℕ) → ((t : List ℕ) → ¬ CompletesWord place (b ∷ t)) → ¬ CompletesWord place [] → ¬ CompletesWith Ends place (b ∷ rest)
 no_end Ends place b rest stop part h = part (mark_behind Ends place b h.word h.behind rest stop h.follows h.ends h.is).0
 
 -- a root may end
@@ -99,7 +99,7 @@ no_digits : (room : ℕ) → EndsRoot room []
 no_digits room = record { digits = []; few = omega arith; are_digits = tt; tail = []; ends = tt; is = refl }
 
 -- each place in a word has a completion
-pub word_completion : (place : Place) → (rest : List ℕ) × Follows place rest
+pub word_completion : (place : Place) → (rest : List ℕ) × CompletesWord place rest
 word_completion Start = (120 ∷ 49 ∷ [], (refl, ((omega arith, omega arith), no_digits 3)))
 word_completion Mark = (49 ∷ [], ((omega arith, omega arith), no_digits 3))
 word_completion (Root room) = ([], no_digits room)
@@ -107,7 +107,7 @@ word_completion Point = (49 ∷ [], ((omega arith, omega arith), tt))
 word_completion Letters = ([], tt)
 
 -- a row is whole where its `to` word is
-row_completion : (place : Place) → FollowsIn EndsRow place (word_completion place).0
+row_completion : (place : Place) → CompletesWith EndsRow place (word_completion place).0
 row_completion place = let whole = word_completion place in record { word = whole.0; follows = whole.1; behind = []; ends = tt; is = sym (append-nil whole.0) }
 
 -- each spot in rows has a completion
@@ -118,7 +118,7 @@ rows_completion (From place) =
     (whole.0 ++ 62 ∷ (word_completion Start).0, record { word = whole.0; follows = whole.1; behind = 62 ∷ (word_completion Start).0; ends = (refl, row_completion Start); is = refl })
 
 -- what ends a `from` word isn't nothing
-not_ended : (word behind : List ℕ) → EndsFrom behind → [] ≢ word ++ behind
+not_ended : (word behind : List ℕ) → EndsFromWord behind → [] ≢ word ++ behind
 not_ended word [] ends e = ends
 not_ended [] (b ∷ behind) ends e = cc
 not_ended (c ∷ word) (b ∷ behind) ends e = cc
@@ -133,8 +133,8 @@ no_bytes [] behind e = refl
 no_bytes (b ∷ word) behind e = absurd (cc)
 
 -- and end in a `to` word where it may end
-pub to_finished : (place : Place) → Follows place [] ↔ FollowsRows (To place) []
+pub to_finished : (place : Place) → CompletesWord place [] ↔ FollowsRows (To place) []
 to_finished place = (
   (λ h. record { word = []; follows = h; behind = []; ends = tt; is = refl }),
-  (λ h. subst (Follows place) (no_bytes h.word h.behind h.is) h.follows),
+  (λ h. subst (CompletesWord place) (no_bytes h.word h.behind h.is) h.follows),
 )

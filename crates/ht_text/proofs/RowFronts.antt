@@ -4,7 +4,7 @@ use Rattle.std.proofs.lemmas.List.Elements.{All-cons, All-nil}
 use Rattle.ht_pair.specs.declared.row.Row.{Row}
 use Rattle.ht_text.specs.Texts.{HasRowText, IsRows, word_text, row_text, rows_text}
 use Rattle.ht_text.specs.Fronts.{IsWordText, IsRowsText}
-use Rattle.ht_text.specs.Places.{FollowsIn, EndsFrom, EndsRow}
+use Rattle.ht_text.specs.Places.{CompletesWith, EndsFromWord, EndsRow}
 use Rattle.ht_text.specs.declared.place.Place.TheVariants.{Start}
 use Rattle.ht_text.proofs.WordFronts.{marked, word_marked}
 
@@ -13,7 +13,7 @@ row_split : (from to tail : List ℕ) → ((from ++ 62 ∷ []) ++ to) ++ tail �
 row_split from to tail = append_assoc (from ++ 62 ∷ []) to tail ∙ append_assoc from (62 ∷ []) (to ++ tail)
 
 -- a row and what ends it
-row_follows : (bytes tail : List ℕ) (row : Row) → HasRowText row → EndsRow tail → bytes ≡ row_text row ++ tail → FollowsIn EndsFrom Start bytes
+row_follows : (bytes tail : List ℕ) (row : Row) → HasRowText row → EndsRow tail → bytes ≡ row_text row ++ tail → CompletesWith EndsFromWord Start bytes
 row_follows bytes tail row h ends e = record {
   word = word_text row.from;
   follows = marked (word_text row.from) row.from (record { has_text = h.from; is = refl });
@@ -32,7 +32,7 @@ row_follows bytes tail row h ends e = record {
 }
 
 -- rows begin with a row
-rows_follow : (bytes : List ℕ) (rows : List Row) → IsRows bytes rows → FollowsIn EndsFrom Start bytes
+rows_follow : (bytes : List ℕ) (rows : List Row) → IsRows bytes rows → CompletesWith EndsFromWord Start bytes
 rows_follow bytes [] h = absurd (h.some refl)
 rows_follow bytes (row ∷ []) h = row_follows bytes [] row (h.have_texts 0 row (omega arith)) tt (h.is ∙ sym (append-nil (row_text row)))
 rows_follow bytes (row ∷ next ∷ rows) h =
@@ -64,12 +64,12 @@ of_words bytes from to tail f t ends e =
     (e ∙ ap (λ u. u ++ 62 ∷ (to ++ tail)) f.1.is ∙ ap (λ u. word_text f.0 ++ 62 ∷ (u ++ tail)) t.1.is ∙ sym (row_split (word_text f.0) (word_text t.0) tail))
 
 -- a `from` word and what is behind it are rows
-behind_from : (bytes word behind : List ℕ) → IsWordText word → EndsFrom behind → bytes ≡ word ++ behind → IsRowsText bytes
+behind_from : (bytes word behind : List ℕ) → IsWordText word → EndsFromWord behind → bytes ≡ word ++ behind → IsRowsText bytes
 behind_from bytes word [] from ends e = absurd ends
 behind_from bytes word (b ∷ behind) from ends e =
     let to = ends.1 in
     of_words bytes word to.word to.behind from ((word_marked to.word).1 to.follows) to.ends (e ∙ ap (λ t. word ++ t ∷ behind) ends.0 ∙ ap (λ t. word ++ 62 ∷ t) to.is)
 
 -- a text of rows is a `from` word and what is behind it
-pub rows_begin : (bytes : List ℕ) → IsRowsText bytes ↔ FollowsIn EndsFrom Start bytes
+pub rows_begin : (bytes : List ℕ) → IsRowsText bytes ↔ CompletesWith EndsFromWord Start bytes
 rows_begin bytes = ((λ h. rows_follow bytes h.0 h.1), (λ h. behind_from bytes h.word h.behind ((word_marked h.word).1 h.follows) h.ends h.is))

@@ -9,7 +9,7 @@ use Rattle.std.proofs.lemmas.List.Elements.{recursion_from_All, All-from_recursi
 use Rattle.ht_word.specs.declared.word.Word.{Word}
 use Rattle.ht_text.specs.Texts.{IsNum, HasForm, IsDigitLetter, IsWord, letter_code, letters_text}
 use Rattle.ht_text.specs.Fronts.{IsWordText}
-use Rattle.ht_text.specs.Places.{AreLetterBytes, EndsWord, EndsRoot, EndsMark, IsMarked}
+use Rattle.ht_text.specs.Places.{AreLetterBytes, EndsWord, EndsRoot, EndsMark, IsRooted}
 use Rattle.ht_text.proofs.Numbers.{form_of_num, digits_of_num, num_of_digits}
 use Rattle.ht_text.proofs.PlaceLaws.{digit_byte, byte_digit}
 
@@ -76,9 +76,9 @@ decimal_root n tail low high ends =
     root_of_digits (decimal n) tail (form_of_num (decimal n) n num) (digits_of_num (decimal n) n num) (λ e. absurd (omega arith)) ends
 
 -- the text of a word begins with an `x`
-pub marked : (bytes : List ℕ) (w : Word) → IsWord bytes w → IsMarked bytes
+pub marked : (bytes : List ℕ) (w : Word) → IsWord bytes w → IsRooted bytes
 marked bytes w h =
-    subst IsMarked (sym h.is)
+    subst IsRooted (sym h.is)
     (refl, decimal_root w.root (letters_text w.letters) h.has_text.root_low h.has_text.root_high (letters_end w.letters (recursion_from_All IsDigitLetter w.letters h.has_text.letters)))
 
 -- a number that doesn't begin with 0 isn't 0
@@ -105,11 +105,11 @@ word_of b d rest mark low high root =
     )
 
 -- `marked`, turned
-of_marked : (bytes : List ℕ) → IsMarked bytes → IsWordText bytes
+of_marked : (bytes : List ℕ) → IsRooted bytes → IsWordText bytes
 of_marked [] h = absurd h
 of_marked (b ∷ []) h = absurd h.1
 of_marked (b ∷ d ∷ rest) h = word_of b d rest h.0 h.1.0.0 h.1.0.1 h.1.1
 
 -- a text of a word is an `x`, a root and what ends a word
-pub word_marked : (bytes : List ℕ) → IsWordText bytes ↔ IsMarked bytes
+pub word_marked : (bytes : List ℕ) → IsWordText bytes ↔ IsRooted bytes
 word_marked bytes = ((λ h. marked bytes h.0 h.1), of_marked bytes)

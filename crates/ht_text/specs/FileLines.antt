@@ -8,7 +8,7 @@
 --     head_text n r k              the first three lines, with their line feeds
 --     IsGroupFront bytes n r rest  the bytes are a second line and rest
 --     IsCountFront bytes k rest    the bytes are a third line and rest
---     IsHead bytes n r k rest      the bytes are three lines of a file and rest
+--     IsFileHead bytes n r k rest  the bytes are three lines of a file and rest
 --     IsRowFront bytes row rest    the bytes are the line of a row and rest
 --     IsNoEnd rest                 rest doesn't begin with a whole last line, and isn't one without its line feed
 --     HasBehindEnd rest            rest is a whole last line and some bytes behind it
@@ -52,7 +52,7 @@ pub record IsCountFront (bytes : List ℕ) (k : ℕ) (rest : List ℕ) : Type 0 
   pub few : k < 10 ^ 6
   pub is : bytes ≡ count_line k ++ 10 ∷ rest
 
-pub record IsHead (bytes : List ℕ) (n r k : ℕ) (rest : List ℕ) : Type 0 where
+pub record IsFileHead (bytes : List ℕ) (n r k : ℕ) (rest : List ℕ) : Type 0 where
   pub n_small : n < 10 ^ 4
   pub r_small : r < 10 ^ 4
   pub some : 1 ≤ k

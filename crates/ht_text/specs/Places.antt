@@ -6,11 +6,11 @@
 --     EndsWord rest             nothing, or a `.` and the digits of letters
 --     EndsRoot room rest        up to room more digits of a root, and what ends a word
 --     EndsMark rest             a root and what ends a word
---     IsMarked rest             an `x`, a root and what ends a word
---     Follows place rest        rest completes a word of which the place is reached
---     FollowsIn Ends place rest rest completes a word of which the place is reached, and Ends holds of what is behind it
+--     IsRooted rest             an `x`, a root and what ends a word
+--     CompletesWord place rest  rest completes a word of which the place is reached
+--     CompletesWith Ends place rest  rest completes a word of which the place is reached, and Ends holds of what is behind it
 --     EndsRow rest              nothing, or a `;` and rows
---     EndsFrom rest             a `>`, a `to` word and what ends its row
+--     EndsFromWord rest         a `>`, a `to` word and what ends its row
 --     FollowsRows spot rest     rest completes rows of which the spot is reached
 use Rattle.std.specs.Prelude.{ℕ, ◌≡◌, ◌≤◌, List, [], ◌∷◌, ◌++◌, length}
 use Rattle.std.specs.List.{AllByRecursion}
@@ -47,20 +47,20 @@ abbrev pub EndsMark : List ℕ → Type 0
 EndsMark [] = ⊥
 EndsMark (b ∷ rest) = IsLetterByte b × EndsRoot 3 rest
 
-abbrev pub IsMarked : List ℕ → Type 0
-IsMarked [] = ⊥
-IsMarked (b ∷ rest) = (b ≡ 120) × EndsMark rest
+abbrev pub IsRooted : List ℕ → Type 0
+IsRooted [] = ⊥
+IsRooted (b ∷ rest) = (b ≡ 120) × EndsMark rest
 
-abbrev pub Follows : Place → List ℕ → Type 0
-Follows Start rest = IsMarked rest
-Follows Mark rest = EndsMark rest
-Follows (Root room) rest = EndsRoot room rest
-Follows Point rest = AreSomeLetterBytes rest
-Follows Letters rest = AreLetterBytes rest
+abbrev pub CompletesWord : Place → List ℕ → Type 0
+CompletesWord Start rest = IsRooted rest
+CompletesWord Mark rest = EndsMark rest
+CompletesWord (Root room) rest = EndsRoot room rest
+CompletesWord Point rest = AreSomeLetterBytes rest
+CompletesWord Letters rest = AreLetterBytes rest
 
-pub record FollowsIn (Ends : List ℕ → Type 0) (place : Place) (rest : List ℕ) : Type 0 where
+pub record CompletesWith (Ends : List ℕ → Type 0) (place : Place) (rest : List ℕ) : Type 0 where
   pub word : List ℕ
-  pub follows : Follows place word
+  pub follows : CompletesWord place word
   pub behind : List ℕ
   pub ends : Ends behind
   pub is : rest ≡ word ++ behind
@@ -69,10 +69,10 @@ abbrev pub EndsRow : List ℕ → Type 0
 EndsRow [] = Unit {0}
 EndsRow (b ∷ rest) = (b ≡ 59) × IsRowsText rest
 
-abbrev pub EndsFrom : List ℕ → Type 0
-EndsFrom [] = ⊥
-EndsFrom (b ∷ rest) = (b ≡ 62) × FollowsIn EndsRow Start rest
+abbrev pub EndsFromWord : List ℕ → Type 0
+EndsFromWord [] = ⊥
+EndsFromWord (b ∷ rest) = (b ≡ 62) × CompletesWith EndsRow Start rest
 
 abbrev pub FollowsRows : Spot → List ℕ → Type 0
-FollowsRows (From place) rest = FollowsIn EndsFrom place rest
-FollowsRows (To place) rest = FollowsIn EndsRow place rest
+FollowsRows (From place) rest = CompletesWith EndsFromWord place rest
+FollowsRows (To place) rest = CompletesWith EndsRow place rest

@@ -2,7 +2,7 @@
 ghost use Rattle.std.specs.Prelude.{◌≡◌, ◌≢◌, ◌++◌, ◌∷◌, ℕ, List, length, codes, IfOk, IfErr, MatchOption};
 ghost use Rattle.ht_pair.specs.declared.row.Row.{Row};
 ghost use Rattle.ht_text.specs.Files.{IsFile};
-ghost use Rattle.ht_text.specs.FileLines.{head_line, IsGroupFront, IsCountFront, IsHead, IsRowFront, IsLinesFault, IsEnding};
+ghost use Rattle.ht_text.specs.FileLines.{head_line, IsGroupFront, IsCountFront, IsFileHead, IsRowFront, IsLinesFault, IsEnding};
 
 use crate::bytes::{after, cut};
 use crate::fault::FileFault;
@@ -69,7 +69,7 @@ pub(crate) fn read_lines(alloc: Global, bytes: &[u8]) -> Result<FileRows, FileFa
 
 // The first three lines. One pass over them.
 fn read_head(bytes: &[u8]) -> Result<Head<'_>, FileFault>
-    ensures head { IfOk result (λ head. IsHead bytes.now head.n head.r head.count head.rest.now) }
+    ensures head { IfOk result (λ head. IsFileHead bytes.now head.n head.r head.count head.rest.now) }
     ensures fault { IfErr result (IsLinesFault bytes.now) }
 {
     let Some(text) = after(bytes, b"ht-element 1\n") else {

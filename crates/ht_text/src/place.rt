@@ -1,6 +1,6 @@
 //! Places in the texts of words and rows, read byte by byte.
 ghost use Rattle.std.specs.Prelude.{◌≡◌, ℕ, List, [], ◌∷◌, ◌↔◌, IsTrue, MatchOption};
-ghost use Rattle.ht_text.specs.Places.{IsLetterByte, EndsRoot, Follows, FollowsIn, EndsFrom, EndsRow, FollowsRows};
+ghost use Rattle.ht_text.specs.Places.{IsLetterByte, EndsRoot, CompletesWord, CompletesWith, EndsFromWord, EndsRow, FollowsRows};
 
 // How much of a word has been read.
 #[derive(Clone, Copy, Debug)]
@@ -27,8 +27,8 @@ pub(crate) enum Spot {
 impl Place {
     // The place behind one more byte; `None` exactly where the byte can't stand here.
     pub(crate) fn next(self, byte: u8) -> Option<Place>
-        ensures { MatchOption result ((rest : List ℕ) → ¬ Follows self (byte ∷ rest))
-            (λ next. (rest : List ℕ) → Follows self (byte ∷ rest) ↔ Follows next rest) }
+        ensures { MatchOption result ((rest : List ℕ) → ¬ CompletesWord self (byte ∷ rest))
+            (λ next. (rest : List ℕ) → CompletesWord self (byte ∷ rest) ↔ CompletesWord next rest) }
     {
         match self {
             Place::Start => (byte == b'x').then_some(Place::Mark),
@@ -41,7 +41,7 @@ impl Place {
 
     // Whether a whole word has been read.
     pub(crate) fn is_whole(self) -> bool
-        ensures { IsTrue result ↔ Follows self [] }
+        ensures { IsTrue result ↔ CompletesWord self [] }
     {
         matches!(self, Place::Root(_) | Place::Letters)
     }
@@ -80,7 +80,7 @@ fn is_letter(byte: u8) -> bool
 // The place behind one more byte in a root.
 fn behind_root(room: u8, byte: u8) -> Option<Place>
     ensures { MatchOption result ((rest : List ℕ) → ¬ EndsRoot room (byte ∷ rest))
-        (λ next. (rest : List ℕ) → EndsRoot room (byte ∷ rest) ↔ Follows next rest) }
+        (λ next. (rest : List ℕ) → EndsRoot room (byte ∷ rest) ↔ CompletesWord next rest) }
 {
     if byte == b'.' {
         return Some(Place::Point);
@@ -93,8 +93,8 @@ fn behind_root(room: u8, byte: u8) -> Option<Place>
 
 // The spot behind one more byte in a `from` word.
 fn behind_from(place: Place, byte: u8) -> Option<Spot>
-    ensures { MatchOption result ((rest : List ℕ) → ¬ FollowsIn EndsFrom place (byte ∷ rest))
-        (λ next. (rest : List ℕ) → FollowsIn EndsFrom place (byte ∷ rest) ↔ FollowsRows next rest) }
+    ensures { MatchOption result ((rest : List ℕ) → ¬ CompletesWith EndsFromWord place (byte ∷ rest))
+        (λ next. (rest : List ℕ) → CompletesWith EndsFromWord place (byte ∷ rest) ↔ FollowsRows next rest) }
 {
     if byte == b'>' {
         if !place.is_whole() {
@@ -110,8 +110,8 @@ fn behind_from(place: Place, byte: u8) -> Option<Spot>
 
 // The spot behind one more byte in a `to` word.
 fn behind_to(place: Place, byte: u8) -> Option<Spot>
-    ensures { MatchOption result ((rest : List ℕ) → ¬ FollowsIn EndsRow place (byte ∷ rest))
-        (λ next. (rest : List ℕ) → FollowsIn EndsRow place (byte ∷ rest) ↔ FollowsRows next rest) }
+    ensures { MatchOption result ((rest : List ℕ) → ¬ CompletesWith EndsRow place (byte ∷ rest))
+        (λ next. (rest : List ℕ) → CompletesWith EndsRow place (byte ∷ rest) ↔ FollowsRows next rest) }
 {
     if byte == b';' {
         if !place.is_whole() {

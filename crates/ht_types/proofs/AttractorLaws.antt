@@ -15,7 +15,8 @@ use Rattle.ht_pair.specs.SemiNormal.{StaysAhead, StaysBehind}
 use Rattle.ht_pair.specs.Steps.{Carries}
 use Rattle.ht_pair.specs.declared.row.Row.{Row}
 use Rattle.ht_pair.proofs.CarriesLaws.{carries_single, carries_word, carries_extends, carries_back, carries_rest, carries_sum, carries_itself}
-use Rattle.ht_pair.proofs.KindLaws.{repeated, carries_times, lengthened_there, not_both}
+use Rattle.ht_pair.specs.Repeats.{repeated}
+use Rattle.ht_pair.proofs.KindLaws.{carries_times, lengthened_there, not_both}
 use Rattle.ht_types.proofs.PeriodicLaws.{carried_further}
 use Rattle.ht_types.proofs.Repeats.{repeats}
 use Rattle.ht_types.proofs.TurnLaws.{HasSemiNormal, grows_attractor}

@@ -15,8 +15,8 @@ use Rattle.ht_pair.specs.Steps.{Carries}
 use Rattle.ht_pair.specs.declared.row.Row.{Row}
 use Rattle.ht_pair.proofs.CarriesLaws.{carries_single, carries_word, carries_back, carries_rest}
 use Rattle.ht_quasi.proofs.MirrorLaws.{behind_ahead}
-use Rattle.ht_types.proofs.FlowLaws.{lengthened_twice, turned_mirrors, turned_base}
-use Rattle.ht_types.proofs.MirrorLaws.{attractor_repeller}
+use Rattle.ht_types.proofs.FlowLaws.{lengthened_twice, turned_base}
+use Rattle.ht_types.proofs.MirrorLaws.{turned_mirrors, attractor_repeller}
 use Rattle.ht_types.proofs.OnwardLaws.{early_under}
 use Rattle.ht_types.proofs.PeriodicLaws.{carried_further}
 use Rattle.ht_types.proofs.TurnLaws.{HasSemiNormal, FallsBack, grows_attractor}

@@ -1,5 +1,5 @@
 -- What the steps of the words of a semi-normal basis tell of these words.
-use Rattle.std.proofs.Common.{◌≡◌, ◌≢◌, ℕ, zero, suc, ◌+◌, ◌-◌, ◌*◌, ◌≤◌, ◌<◌, ◌⊎◌, inl, inr, List, [], ◌∷◌, ◌++◌, Some, slice_get, refl, sym, ap, ◌∙◌, subst, subst₂, arith, zero-mul, Contains, pos, neg_ℤ, ◌+ℤ◌}
+use Rattle.std.proofs.Common.{◌≡◌, ◌≢◌, ℕ, zero, suc, ◌+◌, ◌-◌, ◌*◌, ◌≤◌, ◌<◌, ◌⊎◌, inl, inr, List, [], ◌∷◌, ◌++◌, Some, slice_get, refl, sym, ap, ◌∙◌, subst, subst₂, arith, Contains, pos, neg_ℤ, ◌+ℤ◌}
 use Rattle.std.proofs.lemmas.Int.{ints}
 use Rattle.std.proofs.lemmas.List.Elements.{All-contains}
 use Rattle.std.proofs.lemmas.Option.{slice_get_within, get_or_from_slice_get}
@@ -29,12 +29,13 @@ use Rattle.ht_types.specs.declared.step.Step.TheVariants.{Splits, Leads}
 use Rattle.ht_types.proofs.GoesLaws.{CanGo, turns_on, first_round}
 use Rattle.ht_types.proofs.OnwardLaws.{such_above}
 use Rattle.ht_types.proofs.PathLaws.{goes_none, no_steps, goes_next, first_step, goes_front, turns_by}
+use Rattle.ht_types.proofs.PeriodicLaws.{carries_round}
 
 -- a semi-normal basis of a pair, with the steps of its words
 pub record IsStepped (shape : Shape) (p : List Row) (X : List Word) (steps : List Step) : Type 0 where
   pub pair : IsPair shape p
   pub semi : IsSemiNormal shape p X
-  pub are : AreSteps shape p X steps
+  pub are : AreSteps shape p X (pos 1) steps
 
 -- the k-th power carries u to the word of X at the place y with the letters z behind it
 pub record CarriesTo (shape : Shape) (p : List Row) (X : List Word) (k : ℕ) (u : Word) (y : ℕ) (z : List ℕ) : Type 0 where
@@ -61,11 +62,6 @@ carries_around shape p pair j k u v z c d =
 -- without letters behind it a word is itself
 carries_exactly : (shape : Shape) (p : List Row) (k : ℕ) (u v : Word) (z : List ℕ) → z ≡ [] → Carries shape p (pos k) u (v · z) → Carries shape p (pos k) u v
 carries_exactly shape p k u v z e c = subst (Carries shape p (pos k) u) (ap (λ s. v · s) e ∙ after-nil v) c
-
--- a word that a power carries to itself is carried to itself again and again
-cycle_times : (shape : Shape) (p : List Row) → IsPair shape p → (k : ℕ) (u : Word) → Carries shape p (pos k) u u → (j : ℕ) → Carries shape p (pos (j * k)) u u
-cycle_times shape p pair k u c zero = subst (λ i. Carries shape p (pos i) u u) (sym (zero-mul k)) (carries_itself shape p u c.word)
-cycle_times shape p pair k u c (suc j) = carries_sum shape p pair (pos k) (pos (j * k)) (pos (suc j * k)) (omega (arith, ints)) u u u c (cycle_times shape p pair k u c j)
 
 -- ---- words that stay ahead
 
@@ -100,7 +96,7 @@ back_stays shape p pair X semi u c k z positive carries = elim (All-contains (λ
         let w = behind (j * k - j) in
         record {
           to = w.to;
-          carries = carries_sum shape p pair (pos (j * k)) (neg_ℤ (pos (j * k - j))) (pos j) (less (j * k) j (enough j)) u u w.to (cycle_times shape p pair k u e j) w.carries;
+          carries = carries_sum shape p pair (pos (j * k)) (neg_ℤ (pos (j * k - j))) (pos j) (less (j * k) j (enough j)) u u w.to (carries_round shape p pair k u e j) w.carries;
           under = w.under;
         }
 
@@ -129,7 +125,7 @@ ahead_goes {shape} {p} {X} {steps} h (suc k) x u here ahead =
     let at = something_at steps x (omega (arith, h.are.as_many, slice_get_within X x u here)) in
     by (λ y v there stays. ahead_goes h k y v there stays) at.0 at.1 (h.are.each x u at.0 here at.1)
   where
-    by : ((y : ℕ) (v : Word) → slice_get X y ≡ Some v → StaysAhead shape p X v → CanGo steps k y) → (step : Step) → slice_get steps x ≡ Some step → HasStep shape p X u step → CanGo steps (suc k) x
+    by : ((y : ℕ) (v : Word) → slice_get X y ≡ Some v → StaysAhead shape p X v → CanGo steps k y) → (step : Step) → slice_get steps x ≡ Some step → HasStep shape p X (pos 1) u step → CanGo steps (suc k) x
     by further Splits at g = absurd (let c = ahead 1 in g c.to c.carries)
     by further (Leads next rest) at g =
         let c = further next g.above g.here (ahead_next shape p h.pair X h.semi u g.above rest (listed_at X x u here) (listed_at X next g.above g.here) g.carries ahead) in

@@ -10,7 +10,6 @@ use Rattle.ht_word.specs.declared.word.Word.{Word}
 use Rattle.ht_word.proofs.WordLaws.{after-append, after-nil, after_cancel, length-after, letters_append, word_after}
 use Rattle.ht_pair.specs.Atoms.{IsInfiniteWord}
 use Rattle.ht_pair.specs.Bases.{longest}
-use Rattle.ht_pair.specs.Elements.{ElementValue}
 use Rattle.ht_pair.specs.Kinds.{IsAttractorWord, IsRepeller}
 use Rattle.ht_pair.specs.Pairs.{from_words}
 use Rattle.ht_pair.specs.SemiNormal.{CarriesUnder}
@@ -19,8 +18,9 @@ use Rattle.ht_pair.specs.declared.row.Row.{Row}
 use Rattle.ht_pair.proofs.BasisLaws.{basis_single}
 use Rattle.ht_pair.proofs.CarriesLaws.{carries_none, carries_word, carries_extends}
 use Rattle.ht_quasi.proofs.StepLaws.{listed_at, same_at}
-use Rattle.ht_types.specs.Flows.{LeadsIn, IsEndKind, IsUnderInfinite, IsWalk, IsWholeWalk, IsContinuedWith, LeadsAway, IsExit}
+use Rattle.ht_types.specs.Flows.{IsEndKind, IsUnderInfinite, IsWalk, IsWholeWalk, IsContinuedWith, LeadsAway, IsExit}
 use Rattle.ht_types.specs.TypedElements.{TypedValue, IsTyped}
+use Rattle.ht_types.specs.WordKinds.{HasKind}
 use Rattle.ht_types.specs.declared.direction.Direction.{Direction}
 use Rattle.ht_types.specs.declared.direction.Direction.TheVariants.{Ahead}
 use Rattle.ht_types.specs.declared.exit.Exit.{Exit}
@@ -28,7 +28,7 @@ use Rattle.ht_types.specs.declared.kind.Kind.{Kind}
 use Rattle.ht_types.specs.declared.walk.Walk.{Walk}
 use Rattle.ht_types.proofs.AwayLaws.{IsAway, away_made}
 use Rattle.ht_types.proofs.OnwardLaws.{walk_then, walk_bound, stays_on, none_on}
-use Rattle.ht_types.proofs.SeenLaws.{IsDirected, directed, infinite_seen, infinite_back, under_in, end_in, end_out, walk_in, walk_out, end_kind, open_kind, away_seen}
+use Rattle.ht_types.proofs.SeenLaws.{IsDirected, rows_in, directed, infinite_seen, infinite_back, under_in, end_in, end_out, walk_in, walk_out, end_kind, open_kind, away_seen}
 use Rattle.ht_types.proofs.StopLaws.{few_words, few_steps}
 use Rattle.ht_types.proofs.TurnLaws.{HasSemiNormal, infinite_kept, turns, carried_far}
 
@@ -221,70 +221,81 @@ exit_smaller direction shape p q X d word x z letters longer walk next a infinit
 
 -- ---- what the code knows
 
-pub record IsAsked (direction : Direction) (t : TypedValue) (b : ElementValue) (word : Word) : Type 0 where
+pub record IsAsked (t : TypedValue) (word : Word) : Type 0 where
   pub typed : IsTyped t.element t.quasi t.kinds
-  pub leads : LeadsIn direction t.element b
   pub under : IsUnderInfinite t.element.shape t.element.rows t.quasi.basis.words word
   pub few : length word.letters < 2 ^ 64
-
-sides : (direction : Direction) (t : TypedValue) (b : ElementValue) (word : Word) → IsAsked direction t b word → IsDirected direction t.element.shape t.element.rows b.rows t.quasi.basis.words
-sides direction t b word h = directed direction t b h.typed h.leads
-
-seen_above : (direction : Direction) (t : TypedValue) (b : ElementValue) (word : Word) (h : IsAsked direction t b word) → IsInfiniteWord t.element.shape b.rows t.quasi.basis.words h.under.above
-seen_above direction t b word h = infinite_seen direction t.element.shape t.element.rows b.rows t.quasi.basis.words (sides direction t b word h) h.under.above h.under.infinite
-
-pub asked_few : (direction : Direction) (t : TypedValue) (b : ElementValue) (word : Word) → IsAsked direction t b word → (letters : List ℕ) (walk : Walk) → IsOnExit t.element.shape b.rows t.quasi.basis.words word letters walk → walk.steps < 2 ^ 86
-asked_few direction t b word h letters walk on =
-    few_steps (length t.quasi.basis.words) (length word.letters) 2 walk.steps (few_words t.element.shape t.quasi.basis.words h.typed.within) h.few (omega arith)
-    (exit_bound (sides direction t b word h).base word h.under.above h.under.under.rest letters walk (seen_above direction t b word h) h.under.under.is on)
 
 -- a letter that a word may have behind it: 1 or 2
 pub first_letter : (shape : Shape) (a : ℕ) → (1 ≤ a) × (a ≤ 2) → IsLetter shape a
 first_letter shape a h = (h.0, (let n = shape.letters_low in let l = h.1 in omega arith))
 
-pub asked_further : (direction : Direction) (t : TypedValue) (b : ElementValue) (word : Word) → IsAsked direction t b word → (letters : List ℕ) (walk : Walk) → IsOnExit t.element.shape b.rows t.quasi.basis.words word letters walk → (a : ℕ) → IsLetter t.element.shape a → (x : Word) → slice_get t.quasi.basis.words walk.to ≡ Some x
-    → IsWordOf t.element.shape (child (x · walk.rest) a) × IsUnderInfinite t.element.shape t.element.rows t.quasi.basis.words (child (x · walk.rest) a)
-asked_further direction t b word h letters walk on a ha x here =
-    let shape = t.element.shape in
-    let X = t.quasi.basis.words in
-    let d = sides direction t b word h in
-    let same : on.above ≡ x = same_at X X walk.to on.above x refl on.walked.here here in
-    let hw : IsWordOf shape (x · walk.rest) = subst (λ y. IsWordOf shape (y · walk.rest)) same (carries_word shape b.rows d.base.pair (pos walk.steps) (word · letters) (on.above · walk.rest) on.walked.carries) in
-    let infinite = infinite_back direction shape t.element.rows b.rows X d x (subst (IsInfiniteWord shape b.rows X) same (exit_infinite d.base word h.under.above h.under.under.rest letters walk (seen_above direction t b word h) h.under.under.is on)) in (
-      word_after shape (x · walk.rest) (a ∷ []) hw (one_letter shape a ha),
-      record { above = x; infinite = infinite; under = record { rest = walk.rest ++ (a ∷ []); is = after-append x walk.rest (a ∷ []) } },
-    )
+module _ (direction : Direction) (t : TypedValue) (word : Word) (h : IsAsked t word) where
+  abbrev shape : Shape
+  shape = t.element.shape
 
-asked_open : (direction : Direction) (t : TypedValue) (b : ElementValue) (word : Word) → IsAsked direction t b word → (letters : List ℕ) (walk : Walk) (on : IsOnExit t.element.shape b.rows t.quasi.basis.words word letters walk) (kind : Kind) → slice_get t.kinds walk.to ≡ Some kind → ¬ IsEndKind direction kind
-    → ¬ IsAttractorWord t.element.shape b.rows on.above
-asked_open direction t b word h letters walk on kind here none a =
-    let d = sides direction t b word h in
-    open_kind direction t.element.shape t.element.rows d.there.pair t.quasi.basis.words on.above kind (h.typed.kinds_are.each walk.to on.above kind on.walked.here here) none (end_in direction t.element.shape t.element.rows b.rows t.quasi.basis.words d on.above a)
+  abbrev p : List Row
+  p = t.element.rows
 
-pub asked_more : (direction : Direction) (t : TypedValue) (b : ElementValue) (word : Word) → IsAsked direction t b word → (letters longer : List ℕ) (walk next : Walk) → IsOnExit t.element.shape b.rows t.quasi.basis.words word letters walk → (kind : Kind) → slice_get t.kinds walk.to ≡ Some kind → ¬ IsEndKind direction kind
-    → (a : ℕ) → IsLetter t.element.shape a → LeadsAway direction kind (length walk.rest) a → longer ≡ letters ++ (a ∷ []) → IsContinuedWith t.element.shape t.element.rows t.quasi.basis.words direction walk a next → IsOnExit t.element.shape b.rows t.quasi.basis.words word longer next
-asked_more direction t b word h letters longer walk next on kind here none a ha away is f =
-    let d = sides direction t b word h in
-    exit_more direction t.element.shape t.element.rows b.rows t.quasi.basis.words d word h.under.above h.under.under.rest letters longer walk next a (seen_above direction t b word h) h.under.under.is on (asked_open direction t b word h letters walk on kind here none) ha
-    (away_seen direction t.element.shape t.element.rows b.rows t.quasi.basis.words d on.above kind (length walk.rest) a (h.typed.kinds_are.each walk.to on.above kind on.walked.here here) away) is f
+  abbrev q : List Row
+  q = rows_in direction p
 
-pub asked_smaller : (direction : Direction) (t : TypedValue) (b : ElementValue) (word : Word) → IsAsked direction t b word → (letters longer : List ℕ) (walk next : Walk) → IsOnExit t.element.shape b.rows t.quasi.basis.words word letters walk → (kind : Kind) → slice_get t.kinds walk.to ≡ Some kind → ¬ IsEndKind direction kind
-    → (a : ℕ) → IsLetter t.element.shape a → IsContinuedWith t.element.shape t.element.rows t.quasi.basis.words direction walk a next → IsOnExit t.element.shape b.rows t.quasi.basis.words word longer next
-    → left_over (length t.quasi.basis.words * (length word.letters + 2)) next.steps (longest (from_words b.rows) + longest t.quasi.basis.words) (length next.rest) < left_over (length t.quasi.basis.words * (length word.letters + 2)) walk.steps (longest (from_words b.rows) + longest t.quasi.basis.words) (length walk.rest)
-asked_smaller direction t b word h letters longer walk next on kind here none a ha f after =
-    exit_smaller direction t.element.shape t.element.rows b.rows t.quasi.basis.words (sides direction t b word h) word h.under.above h.under.under.rest letters longer walk next a (seen_above direction t b word h) h.under.under.is on (asked_open direction t b word h letters walk on kind here none) ha f after
+  abbrev X : List Word
+  X = t.quasi.basis.words
 
--- the walk that has ended is an exit
-pub asked_exit : (direction : Direction) (t : TypedValue) (b : ElementValue) (word : Word) → IsAsked direction t b word → (exit : Exit) → (on : IsOnExit t.element.shape b.rows t.quasi.basis.words word exit.letters (record { steps = exit.steps; to = exit.to; rest = exit.rest })) → (kind : Kind) → slice_get t.kinds exit.to ≡ Some kind → IsEndKind direction kind
-    → IsExit t.element.shape t.element.rows t.quasi.basis.words direction word exit
-asked_exit direction t b word h exit on kind here ends =
-    let walk : Walk = record { steps = exit.steps; to = exit.to; rest = exit.rest } in
-    let few : exit.steps < 2 ^ 86 = asked_few direction t b word h exit.letters walk on in
-    record {
-      above = on.above;
-      of_shape = on.of_shape;
-      walked = walk_in direction t.element.shape t.element.rows b.rows t.quasi.basis.words (sides direction t b word h) (word · exit.letters) on.above walk on.walked;
-      ends = end_kind direction t.element.shape t.element.rows t.quasi.basis.words on.above kind (h.typed.kinds_are.each exit.to on.above kind on.walked.here here) ends;
-      most = exit_bound (sides direction t b word h).base word h.under.above h.under.under.rest exit.letters walk (seen_above direction t b word h) h.under.under.is on;
-      few = omega arith;
-    }
+  sides : IsDirected direction shape p q X
+  sides = directed direction t h.typed
+
+  seen_above : IsInfiniteWord shape q X h.under.above
+  seen_above = infinite_seen direction shape p q X sides h.under.above h.under.infinite
+
+  asked_bound : (letters : List ℕ) (walk : Walk) → IsOnExit shape q X word letters walk → walk.steps ≤ length X * (length word.letters + 2)
+  asked_bound letters walk on = exit_bound sides.base word h.under.above h.under.under.rest letters walk seen_above h.under.under.is on
+
+  pub asked_few : (letters : List ℕ) (walk : Walk) → IsOnExit shape q X word letters walk → walk.steps < 2 ^ 86
+  asked_few letters walk on = few_steps (length X) (length word.letters) 2 walk.steps (few_words shape X h.typed.within) h.few (omega arith) (asked_bound letters walk on)
+
+  pub asked_further : (letters : List ℕ) (walk : Walk) → IsOnExit shape q X word letters walk → (a : ℕ) → IsLetter shape a → (x : Word) → slice_get X walk.to ≡ Some x → IsWordOf shape (child (x · walk.rest) a) × IsUnderInfinite shape p X (child (x · walk.rest) a)
+  asked_further letters walk on a ha x here =
+      let same : on.above ≡ x = same_at X X walk.to on.above x refl on.walked.here here in
+      let hw : IsWordOf shape (x · walk.rest) = subst (λ y. IsWordOf shape (y · walk.rest)) same (carries_word shape q sides.base.pair (pos walk.steps) (word · letters) (on.above · walk.rest) on.walked.carries) in
+      let infinite = infinite_back direction shape p q X sides x (subst (IsInfiniteWord shape q X) same (exit_infinite sides.base word h.under.above h.under.under.rest letters walk seen_above h.under.under.is on)) in (
+        word_after shape (x · walk.rest) (a ∷ []) hw (one_letter shape a ha),
+        record { above = x; infinite = infinite; under = record { rest = walk.rest ++ (a ∷ []); is = after-append x walk.rest (a ∷ []) } },
+      )
+
+  -- the kind that stands at the place of the walk is that of the word there
+  asked_kind : (letters : List ℕ) (walk : Walk) (on : IsOnExit shape q X word letters walk) (kind : Kind) → slice_get t.kinds walk.to ≡ Some kind → HasKind shape p X on.above kind
+  asked_kind letters walk on kind here = h.typed.kinds_are.each walk.to on.above kind on.walked.here here
+
+  asked_open : (letters : List ℕ) (walk : Walk) (on : IsOnExit shape q X word letters walk) (kind : Kind) → slice_get t.kinds walk.to ≡ Some kind → ¬ IsEndKind direction kind → ¬ IsAttractorWord shape q on.above
+  asked_open letters walk on kind here none a = open_kind direction shape p sides.there.pair X on.above kind (asked_kind letters walk on kind here) none (end_in direction shape p q X sides on.above a)
+
+  pub asked_more : (letters longer : List ℕ) (walk next : Walk) → IsOnExit shape q X word letters walk → (kind : Kind) → slice_get t.kinds walk.to ≡ Some kind → ¬ IsEndKind direction kind → (a : ℕ) → IsLetter shape a → LeadsAway direction kind (length walk.rest) a → longer ≡ letters ++ (a ∷ [])
+      → IsContinuedWith shape p X direction walk a next → IsOnExit shape q X word longer next
+  asked_more letters longer walk next on kind here none a ha away is f =
+      exit_more direction shape p q X sides word h.under.above h.under.under.rest letters longer walk next a seen_above h.under.under.is on (asked_open letters walk on kind here none) ha
+      (away_seen direction shape p q X sides on.above kind (length walk.rest) a (asked_kind letters walk on kind here) away) is f
+
+  -- what is left to do, in steps and letters
+  abbrev to_do : Walk → ℕ
+  to_do walk = left_over (length X * (length word.letters + 2)) walk.steps (longest (from_words q) + longest X) (length walk.rest)
+
+  pub asked_smaller : (letters longer : List ℕ) (walk next : Walk) → IsOnExit shape q X word letters walk → (kind : Kind) → slice_get t.kinds walk.to ≡ Some kind → ¬ IsEndKind direction kind → (a : ℕ) → IsLetter shape a → IsContinuedWith shape p X direction walk a next → IsOnExit shape q X word longer next
+      → to_do next < to_do walk
+  asked_smaller letters longer walk next on kind here none a ha f after =
+      exit_smaller direction shape p q X sides word h.under.above h.under.under.rest letters longer walk next a seen_above h.under.under.is on (asked_open letters walk on kind here none) ha f after
+
+  -- the walk that has ended is an exit
+  pub asked_exit : (exit : Exit) (on : IsOnExit shape q X word exit.letters (record { steps = exit.steps; to = exit.to; rest = exit.rest })) (kind : Kind) → slice_get t.kinds exit.to ≡ Some kind → IsEndKind direction kind → IsExit shape p X direction word exit
+  asked_exit exit on kind here ends =
+      let walk : Walk = record { steps = exit.steps; to = exit.to; rest = exit.rest } in
+      let few : exit.steps < 2 ^ 86 = asked_few exit.letters walk on in
+      record {
+        above = on.above;
+        of_shape = on.of_shape;
+        walked = walk_in direction shape p q X sides (word · exit.letters) on.above walk on.walked;
+        ends = end_kind direction shape p X on.above kind (asked_kind exit.letters walk on kind here) ends;
+        most = asked_bound exit.letters walk on;
+        few = omega arith;
+      }

@@ -16,10 +16,9 @@ use Rattle.ht_pair.specs.Steps.{Carries}
 use Rattle.ht_pair.specs.declared.row.Row.{Row}
 use Rattle.ht_pair.proofs.CarriesLaws.{carries_single, carries_word, carries_extends, carries_sum}
 use Rattle.ht_pair.proofs.MovesLaws.{turned_pair}
-use Rattle.ht_pair.proofs.ProductLaws.{inverse_is}
-use Rattle.ht_quasi.proofs.MirrorLaws.{Mirrors, inverse_mirrors, mirrored_semi_normal}
+use Rattle.ht_quasi.proofs.MirrorLaws.{Mirrors, mirrored_semi_normal}
 use Rattle.ht_types.specs.Flows.{FlowsAhead, FlowsBehind}
-use Rattle.ht_types.proofs.MirrorLaws.{such_to}
+use Rattle.ht_types.proofs.MirrorLaws.{turned_mirrors, such_to}
 use Rattle.ht_types.proofs.PeriodicLaws.{periodic_word_either}
 use Rattle.ht_types.proofs.TurnLaws.{HasSemiNormal, FallsBack, turns, stays_far, falls_to, falls_shorter}
 
@@ -143,11 +142,7 @@ mirrored_infinite {shape} {p} {q} {X} h mirrors x infinite =
     some : (m : ℕ) → 1 ≤ m → neg_ℤ (pos m) ≢ pos 0
     some m l e = absurd (omega (arith, ints))
 
--- the turned rows of a pair mirror it
-pub turned_mirrors : (shape : Shape) (p : List Row) → IsPair shape p → Mirrors shape p (turned p)
-turned_mirrors shape p pair = inverse_mirrors shape p (turned p) pair (inverse_is shape p pair)
-
--- and have the same semi-normal bases
+-- the turned rows of a pair have its semi-normal bases
 pub turned_base : {shape : Shape} {p : List Row} {X : List Word} → HasSemiNormal shape p X → HasSemiNormal shape (turned p) X
 turned_base {shape} {p} {X} h = record { pair = turned_pair shape p h.pair; semi = mirrored_semi_normal (turned_mirrors shape p h.pair) X h.semi }
 

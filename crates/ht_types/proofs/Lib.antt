@@ -25,3 +25,9 @@ pub mod KnownParts
 pub mod AttractorLaws
 pub mod RepellerLaws
 pub mod ShareLaws
+pub mod AtomLaws
+pub mod PointLaws
+pub mod JoinedLaws
+pub mod AnchorLaws
+pub mod TypedLaws
+pub mod PlacedWords

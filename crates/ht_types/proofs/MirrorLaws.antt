@@ -5,11 +5,17 @@ use Rattle.ht_word.specs.Words.{◌·◌}
 use Rattle.ht_word.specs.declared.shape.Shape.{Shape}
 use Rattle.ht_word.specs.declared.word.Word.{Word}
 use Rattle.ht_pair.specs.Kinds.{Lengthens, IsAttractor, IsRepeller, IsAttractorWord, IsRepellerWord}
+use Rattle.ht_pair.specs.Pairs.{IsPair, turned}
 use Rattle.ht_pair.specs.Reaches.{CarriesUnderSuch, IsReachAhead, IsReachBehind}
 use Rattle.ht_pair.specs.declared.row.Row.{Row}
-use Rattle.ht_quasi.proofs.MirrorLaws.{Mirrors, ahead_behind}
+use Rattle.ht_pair.proofs.ProductLaws.{inverse_is}
+use Rattle.ht_quasi.proofs.MirrorLaws.{Mirrors, ahead_behind, inverse_mirrors}
 use Rattle.ht_types.specs.WordKinds.{LeadsAhead, LeadsBehind}
 use Rattle.ht_types.specs.declared.kind.Reach.{Reach}
+
+-- the turned rows of a pair mirror it
+pub turned_mirrors : (shape : Shape) (p : List Row) → IsPair shape p → Mirrors shape p (turned p)
+turned_mirrors shape p pair = inverse_mirrors shape p (turned p) pair (inverse_is shape p pair)
 
 -- ---- kinds
 

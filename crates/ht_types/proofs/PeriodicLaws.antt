@@ -1,9 +1,13 @@
 -- The cycle words of a semi-normal basis X of p: the words of X to which some power leads back from a word under them.
-use Rattle.std.proofs.Common.{◌≡◌, ◌≢◌, ℕ, zero, suc, ◌-◌, ◌*◌, ◌≤◌, ◌⊎◌, inl, inr, List, [], ◌∷◌, ◌++◌, refl, sym, ap, ◌∙◌, subst, arith, zero-mul, Contains, ℤ, pos, negsuc, neg_ℤ, ◌+ℤ◌}
+use Rattle.std.proofs.Common.{◌≡◌, ◌≢◌, ℕ, zero, suc, ◌-◌, ◌*◌, ◌≤◌, ◌⊎◌, inl, inr, List, [], ◌∷◌, ◌++◌, refl, sym, ap, ◌∙◌, subst, arith, zero-mul, Contains, ℤ, pos, negsuc, neg_ℤ, ◌+ℤ◌, ◌/◌, ◌%◌}
 use Rattle.std.proofs.lemmas.Int.{ints}
 use Rattle.std.proofs.lemmas.List.{append_cancel_right}
-use Rattle.std.proofs.Math.Nat.{mul-le-mul_left}
+use Rattle.std.proofs.Math.Nat.{mul-le-mul_left, mod-lt, div-mul_cancel}
 use Rattle.std.proofs.lemmas.List.Elements.{All-contains}
+use Rattle.std.proofs.lemmas.Bool.{cases_eq}
+use Rattle.std.proofs.lemmas.Nat.{div-add-mod'}
+use Rattle.std.proofs.lemmas.Nat.Gcd.{dvd_of_mod-eq-zero}
+use Rattle.std.specs.Int.{◌∣◌}
 use Rattle.ht_word.specs.Words.{◌·◌, IsLetters, IsWordOf, IsUnder}
 use Rattle.ht_word.specs.declared.shape.Shape.{Shape}
 use Rattle.ht_word.specs.declared.word.Word.{Word}
@@ -67,6 +71,19 @@ periodic_top shape p pair X semi k x z c hz carries = elim (All-contains (λ t. 
 pub carries_round : (shape : Shape) (p : List Row) → IsPair shape p → (k : ℕ) (x : Word) → Carries shape p (pos k) x x → (j : ℕ) → Carries shape p (pos (j * k)) x x
 carries_round shape p pair k x c zero = subst (λ i. Carries shape p (pos i) x x) (sym (zero-mul k)) (carries_itself shape p x c.word)
 carries_round shape p pair k x c (suc j) = carries_sum shape p pair (pos k) (pos (j * k)) (pos (suc j * k)) (omega (arith, ints)) x x x c (carries_round shape p pair k x c j)
+
+-- the length of a cycle divides each number of steps that leads back
+pub length_divides : (shape : Shape) (p : List Row) → IsPair shape p → (x : Word) (m k : ℕ) → IsCycle shape p x m → Carries shape p (pos k) x x → m ∣ k
+length_divides shape p pair x m k cycle carries = elim (cases_eq (k % m) 0) [
+  | inl none ↦ dvd_of_mod-eq-zero m none
+  | inr some ↦
+      let sum : pos (k / m * m) +ℤ pos (k % m) ≡ pos k = ap pos (div-add-mod' k m) in
+      absurd (cycle.least (k % m) (omega (arith, some)) (mod-lt k cycle.positive) (carries_rest shape p pair (pos (k / m * m)) (pos (k % m)) (pos k) sum x x x (carries_round shape p pair m x cycle.holds (k / m)) carries))
+]
+
+-- and each multiple of it does
+pub multiple_carries : (shape : Shape) (p : List Row) → IsPair shape p → (x : Word) (m k : ℕ) → IsCycle shape p x m → m ∣ k → Carries shape p (pos k) x x
+multiple_carries shape p pair x m k cycle divides = subst (λ i. Carries shape p (pos i) x x) (div-mul_cancel m divides) (carries_round shape p pair m x cycle.holds (k / m))
 
 -- a word of a semi-normal basis that k steps lead back to itself stays ahead: if it stays behind, go round far enough first
 returns_ahead : (shape : Shape) (p : List Row) → IsPair shape p → (X : List Word) → IsSemiNormal shape p X → (k : ℕ) (x : Word) → 1 ≤ k → Contains X x → Carries shape p (pos k) x x → StaysAhead shape p X x

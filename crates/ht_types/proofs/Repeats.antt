@@ -1,8 +1,8 @@
 -- Of more elements than a list has, all of the list, two are one; so of more numbers below n than n.
 use Rattle.std.proofs.Common.{◌≡◌, ◌≢◌, ℕ, zero, suc, ◌≤◌, ◌<◌, ◌⊎◌, inl, inr, min, List, length, Some, slice_get, refl, sym, ap, ◌∙◌, subst, arith, Contains}
 use Rattle.std.proofs.lemmas.Bool.{cases_lt}
-use Rattle.std.proofs.lemmas.Option.{slice_get-get_or}
 use Rattle.ht_word.proofs.Deciding.{same_or_not}
+use Rattle.ht_quasi.proofs.StepLaws.{at_place}
 
 -- two of the first n + 1 are one
 pub record IsTwice {A : Type 0} (n : ℕ) (s : ℕ → A) : Type 0 where
@@ -57,9 +57,6 @@ repeats_below (suc n) s below = elim (found_or_not s (s (suc n)) (suc n)) [
 ]
 
 -- ---- elements of a list
-
-at_place : {A : Type 0} (X : List A) (x : A) → (c : Contains X x) → slice_get X c.0 ≡ Some x
-at_place X x c = slice_get-get_or X c.0 x c.1 ∙ ap (λ y. Some y) c.2
 
 pub repeats : {A : Type 0} (X : List A) (s : ℕ → A) → ((i : ℕ) → i ≤ length X → Contains X (s i)) → IsTwice (length X) s
 repeats {A} X s inside =

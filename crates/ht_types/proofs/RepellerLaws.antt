@@ -11,11 +11,11 @@ use Rattle.ht_pair.specs.Pairs.{turned}
 use Rattle.ht_pair.specs.SemiNormal.{StaysBehind}
 use Rattle.ht_pair.specs.Steps.{Carries}
 use Rattle.ht_pair.specs.declared.row.Row.{Row}
-use Rattle.ht_pair.proofs.KindLaws.{repeated}
+use Rattle.ht_pair.specs.Repeats.{repeated}
 use Rattle.ht_types.proofs.AttractorLaws.{IsAttractorOf, lengthened_ahead, attractor_ahead, attractor_moved, moved_ahead, IsInPeriods, periods_of, period_le, comes_round, belongs_both, period_small, on_round}
-use Rattle.ht_types.proofs.FlowLaws.{turned_mirrors, turned_base}
+use Rattle.ht_types.proofs.FlowLaws.{turned_base}
 use Rattle.ht_quasi.proofs.MirrorLaws.{ahead_behind}
-use Rattle.ht_types.proofs.MirrorLaws.{attractor_repeller, repeller_attractor}
+use Rattle.ht_types.proofs.MirrorLaws.{turned_mirrors, attractor_repeller, repeller_attractor}
 use Rattle.ht_types.proofs.TurnLaws.{HasSemiNormal}
 
 -- a word of X that is a repeller

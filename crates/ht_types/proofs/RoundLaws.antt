@@ -11,14 +11,14 @@ use Rattle.ht_types.specs.declared.course.Course.TheVariants.{Returns}
 use Rattle.ht_types.specs.declared.course.State.{State}
 use Rattle.ht_types.specs.declared.course.State.TheVariants.{New, Met, Known}
 use Rattle.ht_types.specs.Courses.{Goes, IsRound, HasCourse}
-use Rattle.ht_types.specs.CourseStates.{LeadsOn, IsKnown, IsNextKnown, AreStates, EndsKnown, IsRoundPath, IsWalked, StaysTold, IsSettled}
+use Rattle.ht_types.specs.CourseStates.{LeadsOn, IsKnown, IsNextKnown, AreStates, EndsKnown, IsRoundPath, IsPathWalked, StaysTold, IsPathSettled}
 use Rattle.ht_types.proofs.PathLaws.{step_once, goes_along, goes_none, goes_next, goes_last, goes_once, round_along, round_turned, IsTurned}
 use Rattle.ht_types.proofs.EntryLaws.{entry_set, entry_kept, entry_in_take, entry_of_take}
 use Rattle.ht_types.proofs.StateLaws.{new_known, met_known, path_once}
 
 -- ---- from the walk
 
-pub walked_round : (steps : List Step) (path : List ℕ) (first x : ℕ) (states : List State) → IsWalked steps path first states → first < length path → x ≡ get_or path first 0 → IsRoundPath steps path first x
+pub walked_round : (steps : List Step) (path : List ℕ) (first x : ℕ) (states : List State) → IsPathWalked steps path first states → first < length path → x ≡ get_or path first 0 → IsRoundPath steps path first x
 walked_round steps path first x states w l is = record {
   within = l;
   begins = begins;
@@ -235,5 +235,5 @@ module _ (steps : List Step) (path : List ℕ) (first x : ℕ) (old states : Lis
     | inr off ↦ sym (others y off) ∙ h
   ]
 
-  pub round_settled : IsSettled steps (take first path) old states
+  pub round_settled : IsPathSettled steps (take first path) old states
   round_settled = record { known = front_states; ends = front_ends; told = round_told }

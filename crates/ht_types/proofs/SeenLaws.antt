@@ -1,39 +1,41 @@
 -- Walks of p in a direction are walks ahead of q, which makes their steps: p itself, or what mirrors it.
-use Rattle.std.proofs.Common.{◌≡◌, ◌≢◌, ℕ, List, Some, slice_get, sym, ap, subst, arith, pos, neg_ℤ, ℤ}
-use Rattle.std.proofs.lemmas.Int.{ints}
+use Rattle.std.proofs.Common.{◌≡◌, ◌≢◌, ℕ, List, Some, slice_get, refl, sym, ap, subst, pos}
 use Rattle.ht_word.specs.Words.{◌·◌}
 use Rattle.ht_word.specs.declared.shape.Shape.{Shape}
 use Rattle.ht_word.specs.declared.word.Word.{Word}
 use Rattle.ht_pair.specs.Atoms.{IsInfiniteWord}
 use Rattle.ht_pair.specs.Elements.{ElementValue}
 use Rattle.ht_pair.specs.Kinds.{IsAttractorWord, IsAttractor, IsRepeller}
-use Rattle.ht_pair.specs.Pairs.{IsPair}
+use Rattle.ht_pair.specs.Pairs.{IsPair, turned}
 use Rattle.ht_pair.specs.Reaches.{CarriesUnderSuch}
 use Rattle.ht_pair.specs.SemiNormal.{CarriesUnder, IsQuasinormal}
 use Rattle.ht_pair.specs.Steps.{Carries}
 use Rattle.ht_pair.specs.declared.row.Row.{Row}
 use Rattle.ht_pair.proofs.KindLaws.{cycle_no_attractor, cycle_no_repeller, attractor_no_repeller, attractor_once, repeller_once}
-use Rattle.ht_quasi.proofs.MirrorLaws.{Mirrors, inverse_mirrors, mirrored_semi_normal, quasinormal_inverse, under_to, under_from}
+use Rattle.ht_quasi.proofs.MirrorLaws.{Mirrors, mirrors_back, quasinormal_inverse, under_to, under_from}
 use Rattle.ht_types.specs.Flows.{power_in, IsEndIn, IsEndKind, LeadsIn, LeadsAway, IsWalk}
 use Rattle.ht_types.specs.TypedElements.{TypedValue, IsTyped}
 use Rattle.ht_types.specs.WordKinds.{HasKind}
+use Rattle.ht_types.specs.WordSteps.{HasStep}
 use Rattle.ht_types.specs.declared.direction.Direction.{Direction}
 use Rattle.ht_types.specs.declared.direction.Direction.TheVariants.{Ahead, Behind}
 use Rattle.ht_types.specs.declared.kind.Kind.{Kind}
 use Rattle.ht_types.specs.declared.kind.Kind.TheVariants.{Cycle, Attractor, Repeller, Passing}
+use Rattle.ht_types.specs.declared.step.Step.{Step}
 use Rattle.ht_types.specs.declared.walk.Walk.{Walk}
-use Rattle.ht_types.proofs.FlowLaws.{mirrored_infinite}
-use Rattle.ht_types.proofs.MirrorLaws.{such_to, such_from, attractor_repeller, repeller_attractor}
+use Rattle.ht_types.proofs.FlowLaws.{mirrored_infinite, turned_base}
+use Rattle.ht_types.proofs.MirrorLaws.{turned_mirrors, such_to, such_from, attractor_repeller, repeller_attractor}
+use Rattle.ht_types.proofs.StepLaws.{step_from}
 use Rattle.ht_types.proofs.TurnLaws.{HasSemiNormal}
 
-abbrev pub Follows : Direction → Shape → List Row → List Row → Type 0
-Follows Ahead shape p q = q ≡ p
-Follows Behind shape p q = Mirrors shape p q
+abbrev pub MirrorsIn : Direction → Shape → List Row → List Row → Type 0
+MirrorsIn Ahead shape p q = q ≡ p
+MirrorsIn Behind shape p q = Mirrors shape p q
 
 pub record IsDirected (direction : Direction) (shape : Shape) (p q : List Row) (X : List Word) : Type 0 where
   pub there : HasSemiNormal shape p X
   pub base : HasSemiNormal shape q X
-  pub follows : Follows direction shape p q
+  pub follows : MirrorsIn direction shape p q
 
 -- ---- elements
 
@@ -41,37 +43,28 @@ pub mover_shape : (direction : Direction) (a b : ElementValue) → LeadsIn direc
 mover_shape Ahead a b e = ap (λ (v : ElementValue). v.shape) e
 mover_shape Behind a b l = l.0
 
-pub directed : (direction : Direction) (t : TypedValue) (b : ElementValue) → IsTyped t.element t.quasi t.kinds → LeadsIn direction t.element b → IsDirected direction t.element.shape t.element.rows b.rows t.quasi.basis.words
-directed Ahead t b typed e =
-    let there : HasSemiNormal t.element.shape t.element.rows t.quasi.basis.words = record { pair = typed.canonical.pair; semi = typed.quasinormal.least.semi_normal } in
-    let same : b.rows ≡ t.element.rows = ap (λ (v : ElementValue). v.rows) e in
-    record { there = there; base = subst (λ r. HasSemiNormal t.element.shape r t.quasi.basis.words) (sym same) there; follows = same }
-directed Behind t b typed l =
-    let there : HasSemiNormal t.element.shape t.element.rows t.quasi.basis.words = record { pair = typed.canonical.pair; semi = typed.quasinormal.least.semi_normal } in
-    let m = inverse_mirrors t.element.shape t.element.rows b.rows typed.canonical.pair l.1 in
-    record { there = there; base = record { pair = (l.1).pair; semi = mirrored_semi_normal m t.quasi.basis.words there.semi }; follows = m }
+-- rows whose steps ahead are those of p in the direction
+abbrev pub rows_in : Direction → List Row → List Row
+rows_in Ahead p = p
+rows_in Behind p = turned p
+
+pub directed : (direction : Direction) (t : TypedValue) → IsTyped t.element t.quasi t.kinds → IsDirected direction t.element.shape t.element.rows (rows_in direction t.element.rows) t.quasi.basis.words
+directed direction t typed = by direction (record { pair = typed.canonical.pair; semi = typed.quasinormal.least.semi_normal })
+  where
+    by : (way : Direction) → HasSemiNormal t.element.shape t.element.rows t.quasi.basis.words → IsDirected way t.element.shape t.element.rows (rows_in way t.element.rows) t.quasi.basis.words
+    by Ahead base = record { there = base; base = base; follows = refl }
+    by Behind base = record { there = base; base = turned_base base; follows = turned_mirrors t.element.shape t.element.rows base.pair }
 
 -- the quasinormal basis of the element is that of what makes the steps
-pub least_for : (direction : Direction) (t : TypedValue) (b : ElementValue) → IsTyped t.element t.quasi t.kinds → LeadsIn direction t.element b → IsQuasinormal b.shape b.rows t.quasi.basis.words
-least_for Ahead t b typed e = subst (λ (v : ElementValue). IsQuasinormal v.shape v.rows t.quasi.basis.words) (sym e) typed.quasinormal.least
-least_for Behind t b typed l =
-    subst (λ (s : Shape). IsQuasinormal s b.rows t.quasi.basis.words) (sym l.0) ((quasinormal_inverse t.element.shape t.element.rows b.rows t.quasi.basis.words typed.canonical.pair l.1).0 typed.quasinormal.least)
+pub least_for : (direction : Direction) (a b : ElementValue) (X : List Word) → IsPair a.shape a.rows → LeadsIn direction a b → IsQuasinormal a.shape a.rows X → IsQuasinormal b.shape b.rows X
+least_for Ahead a b X pair e least = subst (λ (v : ElementValue). IsQuasinormal v.shape v.rows X) (sym e) least
+least_for Behind a b X pair l least = subst (λ (s : Shape). IsQuasinormal s b.rows X) (sym l.0) ((quasinormal_inverse a.shape a.rows b.rows X pair l.1).0 least)
 
 -- ---- words
 
 pub infinite_seen : (direction : Direction) (shape : Shape) (p q : List Row) (X : List Word) → IsDirected direction shape p q X → (x : Word) → IsInfiniteWord shape p X x → IsInfiniteWord shape q X x
 infinite_seen Ahead shape p q X d x h = subst (λ r. IsInfiniteWord shape r X x) (sym d.follows) h
 infinite_seen Behind shape p q X d x h = mirrored_infinite d.there d.follows x h
-
--- mirroring goes both ways
-mirrors_back : {shape : Shape} {p q : List Row} → Mirrors shape p q → Mirrors shape q p
-mirrors_back {shape} {p} m = record {
-  to = λ k u v c. m.from (neg_ℤ k) u v (subst (λ i. Carries shape p i u v) (twice k) c);
-  from = λ k u v c. subst (λ i. Carries shape p i u v) (sym (twice k)) (m.to (neg_ℤ k) u v c);
-}
-  where
-    twice : (k : ℤ) → k ≡ neg_ℤ (neg_ℤ k)
-    twice k = omega (arith, ints)
 
 pub infinite_back : (direction : Direction) (shape : Shape) (p q : List Row) (X : List Word) → IsDirected direction shape p q X → (x : Word) → IsInfiniteWord shape q X x → IsInfiniteWord shape p X x
 infinite_back Ahead shape p q X d x h = subst (λ r. IsInfiniteWord shape r X x) d.follows h
@@ -92,6 +85,11 @@ carries_in Behind shape p q X d k u v h = d.follows.to (pos k) u v h
 carries_out : (direction : Direction) (shape : Shape) (p q : List Row) (X : List Word) → IsDirected direction shape p q X → (k : ℕ) (u v : Word) → Carries shape p (power_in direction k) u v → Carries shape q (pos k) u v
 carries_out Ahead shape p q X d k u v h = subst (λ r. Carries shape r (pos k) u v) (sym d.follows) h
 carries_out Behind shape p q X d k u v h = d.follows.from (pos k) u v h
+
+-- what p does in one step in the direction, q does in one step ahead
+pub step_seen : (direction : Direction) (shape : Shape) (p q : List Row) (X : List Word) → IsDirected direction shape p q X → (x : Word) (step : Step) → HasStep shape p X (power_in direction 1) x step → HasStep shape q X (pos 1) x step
+step_seen Ahead shape p q X d x step h = subst (λ r. HasStep shape r X (pos 1) x step) (sym d.follows) h
+step_seen Behind shape p q X d x step h = step_from d.follows X (pos 1) x step h
 
 such_in : (direction : Direction) (shape : Shape) (p q : List Row) (X : List Word) → IsDirected direction shape p q X → (k : ℕ) (u v : Word) → CarriesUnderSuch shape q (IsAttractorWord shape q) X (pos k) u v → CarriesUnderSuch shape p (IsEndIn direction shape p) X (power_in direction k) u v
 such_in Ahead shape p q X d k u v h = subst (λ r. CarriesUnderSuch shape r (IsAttractorWord shape r) X (pos k) u v) d.follows h

@@ -9,7 +9,7 @@ use Rattle.ht_types.specs.declared.course.Course.{Course}
 use Rattle.ht_types.specs.declared.course.State.{State}
 use Rattle.ht_types.specs.declared.course.State.TheVariants.{New, Met, Known}
 use Rattle.ht_types.specs.Courses.{Goes, Turns, HasCourse}
-use Rattle.ht_types.specs.CourseStates.{LeadsOn, IsKnown, IsNextKnown, AreStates, StaysTold, IsSettled}
+use Rattle.ht_types.specs.CourseStates.{LeadsOn, IsKnown, IsNextKnown, AreStates, StaysTold, IsPathSettled}
 use Rattle.ht_types.proofs.PathLaws.{step_once, no_steps, first_step}
 use Rattle.ht_types.proofs.EntryLaws.{entry_set, entry_kept, entry_cases, entry_front, entry_push}
 use Rattle.ht_types.proofs.Repeats.{repeats_below}
@@ -146,8 +146,8 @@ told_last steps path states x course s right next = record {
     inside : x < length states
     inside = slice_get_within states x (Met (length path)) here
 
-pub settled_last : (steps : List Step) (path : List ℕ) (old states : List State) (x : ℕ) (course : Course) → IsSettled steps (path ++ x ∷ []) old states → HasCourse steps x course → IsNextKnown steps states x
-    → IsSettled steps path old (set states x (Known course))
+pub settled_last : (steps : List Step) (path : List ℕ) (old states : List State) (x : ℕ) (course : Course) → IsPathSettled steps (path ++ x ∷ []) old states → HasCourse steps x course → IsNextKnown steps states x
+    → IsPathSettled steps path old (set states x (Known course))
 settled_last steps path old states x course s right next = record {
   known = told_last steps path states x course s.known right next;
   ends = λ i y e h w leads.
@@ -161,11 +161,11 @@ settled_last steps path old states x course s right next = record {
     inside = slice_get_within states x (Met (length path)) (s.known.on x (length path) (entry_push path x))
 
 -- the last word doesn't turn, and the word that it leads to is known
-pub last_next : (steps : List Step) (path : List ℕ) (old states : List State) (x : ℕ) → IsSettled steps (path ++ x ∷ []) old states → IsNextKnown steps states x
+pub last_next : (steps : List Step) (path : List ℕ) (old states : List State) (x : ℕ) → IsPathSettled steps (path ++ x ∷ []) old states → IsNextKnown steps states x
 last_next steps path old states x s = s.ends (length path) x (omega (arith, length-append path (x ∷ []))) (entry_push path x)
 
-pub last_once : (steps : List Step) (path : List ℕ) (old states : List State) (x : ℕ) → IsSettled steps (path ++ x ∷ []) old states → ¬ Turns steps x
+pub last_once : (steps : List Step) (path : List ℕ) (old states : List State) (x : ℕ) → IsPathSettled steps (path ++ x ∷ []) old states → ¬ Turns steps x
 last_once steps path old states x s = unknown_once steps (path ++ x ∷ []) states s.known x (met_known states x (s.known.on x (length path) (entry_push path x))) (last_next steps path old states x s)
 
-pub last_inside : (steps : List Step) (path : List ℕ) (old states : List State) (x : ℕ) → IsSettled steps (path ++ x ∷ []) old states → x < length steps
+pub last_inside : (steps : List Step) (path : List ℕ) (old states : List State) (x : ℕ) → IsPathSettled steps (path ++ x ∷ []) old states → x < length steps
 last_inside steps path old states x s = omega (arith, s.known.as_many, slice_get_within states x (Met (length path)) (s.known.on x (length path) (entry_push path x)))

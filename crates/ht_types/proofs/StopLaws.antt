@@ -5,21 +5,19 @@ use Rattle.ht_word.specs.Words.{◌·◌, IsWordOf}
 use Rattle.ht_word.specs.declared.shape.Shape.{Shape}
 use Rattle.ht_word.specs.declared.word.Word.{Word}
 use Rattle.ht_pair.specs.Bases.{TakesAtMost}
-use Rattle.ht_pair.specs.Elements.{ElementValue}
 use Rattle.ht_pair.specs.Steps.{Carries}
 use Rattle.ht_pair.specs.declared.row.Row.{Row}
 use Rattle.ht_pair.proofs.CarriesLaws.{carries_word}
 use Rattle.ht_quasi.proofs.StepLaws.{same_at}
-use Rattle.ht_types.specs.Flows.{LeadsIn, IsEndKind, IsUnderInfinite, IsPlaced, IsWholeWalk}
+use Rattle.ht_types.specs.Flows.{IsEndKind, IsUnderInfinite, IsPlaced, IsWholeWalk}
 use Rattle.ht_types.specs.TypedElements.{TypedValue, IsTyped}
 use Rattle.ht_types.specs.WordKinds.{HasKind}
-use Rattle.ht_types.specs.WordSteps.{HasStep, LeadsTo}
+use Rattle.ht_types.specs.WordSteps.{LeadsTo}
 use Rattle.ht_types.specs.declared.direction.Direction.{Direction}
 use Rattle.ht_types.specs.declared.kind.Kind.{Kind}
-use Rattle.ht_types.specs.declared.step.Step.{Step}
 use Rattle.ht_types.specs.declared.walk.Walk.{Walk}
 use Rattle.ht_types.proofs.OnwardLaws.{IsOnWay, walk_none, walk_more, walk_bound}
-use Rattle.ht_types.proofs.SeenLaws.{IsDirected, directed, mover_shape, infinite_seen, under_out, end_in, walk_in, end_kind, open_kind}
+use Rattle.ht_types.proofs.SeenLaws.{IsDirected, rows_in, directed, infinite_seen, under_out, end_in, walk_in, end_kind, open_kind}
 use Rattle.ht_types.proofs.TurnLaws.{HasSemiNormal}
 
 -- ---- numbers
@@ -46,7 +44,7 @@ way_word {shape} {q} {X} h u x walk w here =
 
 -- where it hasn't come to an end, it goes on
 pub way_on : (direction : Direction) (shape : Shape) (p q : List Row) (X : List Word) → IsDirected direction shape p q X → (u : Word) (walk : Walk) (w : IsOnWay shape q X u walk) (kind : Kind) → HasKind shape p X w.above kind → ¬ IsEndKind direction kind
-    → (to : ℕ) (rest : List ℕ) → LeadsTo shape q X (w.above · walk.rest) to rest → IsOnWay shape q X u (record { steps = walk.steps + 1; to = to; rest = rest })
+    → (to : ℕ) (rest : List ℕ) → LeadsTo shape q X (pos 1) (w.above · walk.rest) to rest → IsOnWay shape q X u (record { steps = walk.steps + 1; to = to; rest = rest })
 way_on direction shape p q X d u walk w kind h none to rest l =
     let next : Walk = record { steps = walk.steps + 1; to = to; rest = rest } in
     record {
@@ -77,12 +75,8 @@ stops_stuck direction shape p q X d u walk w stuck under few =
 pub way_kind : (t : TypedValue) → IsTyped t.element t.quasi t.kinds → (q : List Row) (u : Word) (walk : Walk) (w : IsOnWay t.element.shape q t.quasi.basis.words u walk) (kind : Kind) → slice_get t.kinds walk.to ≡ Some kind → HasKind t.element.shape t.element.rows t.quasi.basis.words w.above kind
 way_kind t typed q u walk w kind here = typed.kinds_are.each walk.to w.above kind w.walked.here here
 
--- the mover's steps are those of its rows
-pub mover_step : (direction : Direction) (t : TypedValue) (b : ElementValue) → LeadsIn direction t.element b → (X : List Word) (u : Word) (step : Step) → HasStep b.shape b.rows X u step → HasStep t.element.shape b.rows X u step
-mover_step direction t b l X u step h = subst (λ s. HasStep s b.rows X u step) (mover_shape direction t.element b l) h
-
 -- a walk takes few steps
-pub way_few : (direction : Direction) (t : TypedValue) (b : ElementValue) → IsTyped t.element t.quasi t.kinds → LeadsIn direction t.element b → (u : Word) (walk : Walk) → length u.letters < 2 ^ 64 → IsUnderInfinite t.element.shape t.element.rows t.quasi.basis.words u → IsOnWay t.element.shape b.rows t.quasi.basis.words u walk → walk.steps < 2 ^ 86
-way_few direction t b typed l u walk letters under w =
+pub way_few : (direction : Direction) (t : TypedValue) → IsTyped t.element t.quasi t.kinds → (u : Word) (walk : Walk) → length u.letters < 2 ^ 64 → IsUnderInfinite t.element.shape t.element.rows t.quasi.basis.words u → IsOnWay t.element.shape (rows_in direction t.element.rows) t.quasi.basis.words u walk → walk.steps < 2 ^ 86
+way_few direction t typed u walk letters under w =
     few_steps (length t.quasi.basis.words) (length u.letters) 1 walk.steps (few_words t.element.shape t.quasi.basis.words typed.within) letters (omega arith)
-    (way_bound direction t.element.shape t.element.rows b.rows t.quasi.basis.words (directed direction t b typed l) u walk under w)
+    (way_bound direction t.element.shape t.element.rows (rows_in direction t.element.rows) t.quasi.basis.words (directed direction t typed) u walk under w)

@@ -5,11 +5,12 @@ use Rattle.ht_num.specs.Numbers.{IsLeastPositive}
 use Rattle.ht_word.specs.declared.shape.Shape.{Shape}
 use Rattle.ht_word.specs.declared.word.Word.{Word}
 use Rattle.ht_pair.specs.Kinds.{IsPassing}
-use Rattle.ht_pair.specs.Pairs.{IsPair}
+use Rattle.ht_pair.specs.Pairs.{IsPair, turned}
 use Rattle.ht_pair.specs.SemiNormal.{IsSemiNormal}
 use Rattle.ht_pair.specs.Steps.{Carries}
 use Rattle.ht_pair.specs.declared.row.Row.{Row}
 use Rattle.ht_pair.proofs.CarriesLaws.{carries_back}
+use Rattle.ht_pair.proofs.MovesLaws.{turned_pair}
 use Rattle.ht_quasi.proofs.MirrorLaws.{Mirrors, behind_ahead, mirrored_semi_normal}
 use Rattle.ht_types.specs.Courses.{Goes, IsRound, Turns, HasCourse}
 use Rattle.ht_types.specs.WordKinds.{IsAhead, HasKind}
@@ -19,7 +20,8 @@ use Rattle.ht_types.specs.declared.course.Course.TheVariants.{Ends, Returns, Joi
 use Rattle.ht_types.specs.declared.step.Step.{Step}
 use Rattle.ht_types.proofs.CourseLaws.{IsStepped, cycle_turns, no_cycle, no_attractor, returns_cycle, returns_attractor, joins_leads, joins_no_turn, ends_not_ahead}
 use Rattle.ht_types.proofs.PathLaws.{ends_turns}
-use Rattle.ht_types.proofs.MirrorLaws.{attractor_repeller, no_repeller, leads_behind}
+use Rattle.ht_types.proofs.MirrorLaws.{turned_mirrors, attractor_repeller, no_repeller, leads_behind}
+use Rattle.ht_types.proofs.StepLaws.{steps_from}
 
 -- a semi-normal basis with the steps of its words by an element and by one that mirrors it
 record AreBoth (shape : Shape) (p q : List Row) (X : List Word) (ahead behind : List Step) : Type 0 where
@@ -69,16 +71,18 @@ returns_too {shape} {p} {q} {X} {ahead} {behind} h place x (Joins reach) b here 
     let back = subst (HasCourse behind place) e d in
     absurd (grows_back h place m [] x here (joins_no_turn ahead place reach c.0 c.1) back.0 back.1 refl)
 
--- the steps of the words by an element and by one that mirrors it
-both_of : (shape : Shape) (p q : List Row) → IsPair shape p → IsPair shape q → Mirrors shape p q → (X : List Word) → IsSemiNormal shape p X → (ahead behind : List Step) → AreSteps shape p X ahead → AreSteps shape q X behind → AreBoth shape p q X ahead behind
-both_of shape p q pair_p pair_q mirrors X semi ahead behind steps back =
-    record { mirrors = mirrors; there = record { pair = pair_p; semi = semi; are = steps }; back = record { pair = pair_q; semi = mirrored_semi_normal mirrors X semi; are = back } }
+-- ---- the steps of an element ahead and behind
 
-pub returns_right : (shape : Shape) (p q : List Row) → IsPair shape p → IsPair shape q → Mirrors shape p q → (X : List Word) → IsSemiNormal shape p X → (ahead behind : List Step) → AreSteps shape p X ahead → AreSteps shape q X behind
-    → (place : ℕ) (x : Word) (a b : Course) → slice_get X place ≡ Some x → HasCourse ahead place a → HasCourse behind place b → ReturnsToo a b
-returns_right shape p q pair_p pair_q mirrors X semi ahead behind steps back place x a b here c d = returns_too (both_of shape p q pair_p pair_q mirrors X semi ahead behind steps back) place x a b here c d
+module _ (shape : Shape) (p : List Row) (pair : IsPair shape p) (X : List Word) (semi : IsSemiNormal shape p X) (ahead behind : List Step) (steps : AreSteps shape p X (pos 1) ahead) (back : AreSteps shape p X (neg_ℤ (pos 1)) behind) where
+  -- those behind are those of the turned pair
+  both : AreBoth shape p (turned p) X ahead behind
+  both =
+      let mirrors = turned_mirrors shape p pair in
+      record { mirrors = mirrors; there = record { pair = pair; semi = semi; are = steps }; back = record { pair = turned_pair shape p pair; semi = mirrored_semi_normal mirrors X semi; are = steps_from mirrors X (pos 1) behind back } }
 
--- the kind of a word is told by its courses by an element and by one that mirrors it
-pub told_right : (shape : Shape) (p q : List Row) → IsPair shape p → IsPair shape q → Mirrors shape p q → (X : List Word) → IsSemiNormal shape p X → (ahead behind : List Step) → AreSteps shape p X ahead → AreSteps shape q X behind
-    → (place : ℕ) (x : Word) (a b : Course) → slice_get X place ≡ Some x → HasCourse ahead place a → HasCourse behind place b → HasKind shape p X x (told_kind a b)
-told_right shape p q pair_p pair_q mirrors X semi ahead behind steps back place x a b here c d = told (both_of shape p q pair_p pair_q mirrors X semi ahead behind steps back) place x a b here c d
+  pub returns_right : (place : ℕ) (x : Word) (a b : Course) → slice_get X place ≡ Some x → HasCourse ahead place a → HasCourse behind place b → ReturnsToo a b
+  returns_right place x a b here c d = returns_too both place x a b here c d
+
+  -- the kind of a word is told by its courses
+  pub told_right : (place : ℕ) (x : Word) (a b : Course) → slice_get X place ≡ Some x → HasCourse ahead place a → HasCourse behind place b → HasKind shape p X x (told_kind a b)
+  told_right place x a b here c d = told both place x a b here c d

@@ -10,7 +10,7 @@ use Rattle.ht_types.specs.declared.course.Course.{Course}
 use Rattle.ht_types.specs.declared.course.State.{State}
 use Rattle.ht_types.specs.declared.course.State.TheVariants.{New, Met, Known}
 use Rattle.ht_types.specs.Courses.{AreInside, AreCourses}
-use Rattle.ht_types.specs.CourseStates.{LeadsOn, IsKnown, AreStates, IsWalked, StaysTold, AreAllKnown}
+use Rattle.ht_types.specs.CourseStates.{LeadsOn, IsKnown, AreStates, IsPathWalked, StaysTold, AreAllKnown}
 use Rattle.ht_types.proofs.PathLaws.{step_once, splits_leads}
 use Rattle.ht_types.proofs.EntryLaws.{entry_cases}
 use Rattle.ht_types.proofs.StateLaws.{met_next, met_told, path_short}
@@ -28,7 +28,7 @@ pub start_told : (steps : List Step) (path : List ℕ) (start place : ℕ) (old 
     → slice_get states start ≢ Some New
 start_told steps path start place old states state w here not_new h = not_new (sym here ∙ ap (λ a. slice_get states a) (w.begun h) ∙ h)
 
-pub back_on_path : (steps : List Step) (path : List ℕ) (start place first : ℕ) (old states : List State) → IsUnderWay steps path start place old states → slice_get states place ≡ Some (Met first) → IsWalked steps path first states
+pub back_on_path : (steps : List Step) (path : List ℕ) (start place first : ℕ) (old states : List State) → IsUnderWay steps path start place old states → slice_get states place ≡ Some (Met first) → IsPathWalked steps path first states
 back_on_path steps path start place first old states w here =
     let at = w.known.met place first here in
     let inside = slice_get_within path first place at in
@@ -42,7 +42,7 @@ back_on_path steps path start place first old states w here =
 no_word_past : (path : List ℕ) (y : ℕ) → slice_get path (length path) ≡ Some y → ⊥
 no_word_past path y h = absurd (let l = slice_get_within path (length path) y h in omega arith)
 
-pub at_known : (steps : List Step) (path : List ℕ) (start place : ℕ) (old states : List State) (course : Course) → IsUnderWay steps path start place old states → slice_get states place ≡ Some (Known course) → IsWalked steps path (length path) states
+pub at_known : (steps : List Step) (path : List ℕ) (start place : ℕ) (old states : List State) (course : Course) → IsUnderWay steps path start place old states → slice_get states place ≡ Some (Known course) → IsPathWalked steps path (length path) states
 at_known steps path start place old states course w here = record {
   known = w.known;
   within = omega arith;
@@ -52,8 +52,8 @@ at_known steps path start place old states course w here = record {
       (course, subst (λ a. slice_get states a ≡ Some (Known course)) (step_once steps x place y to.0 leads.0 to.1 leads.1).0 here);
 }
 
-pub walked_along : {path longer : List ℕ} {first count : ℕ} {states new : List State} (steps : List Step) → path ≡ longer → first ≡ count → states ≡ new → IsWalked steps path first states → IsWalked steps longer count new
-walked_along {path} {longer} {first} {count} {states} {new} steps e f g w = subst (λ a. IsWalked steps longer count a) g (subst (λ a. IsWalked steps longer a states) f (subst (λ a. IsWalked steps a first states) e w))
+pub walked_along : {path longer : List ℕ} {first count : ℕ} {states new : List State} (steps : List Step) → path ≡ longer → first ≡ count → states ≡ new → IsPathWalked steps path first states → IsPathWalked steps longer count new
+walked_along {path} {longer} {first} {count} {states} {new} steps e f g w = subst (λ a. IsPathWalked steps longer count a) g (subst (λ a. IsPathWalked steps longer a states) f (subst (λ a. IsPathWalked steps a first states) e w))
 
 pub under_way_along : {path longer : List ℕ} {states new : List State} (steps : List Step) (start place : ℕ) (old : List State) → path ≡ longer → states ≡ new → IsUnderWay steps path start place old states → IsUnderWay steps longer start place old new
 under_way_along {path} {longer} {states} {new} steps start place old e g w = subst (λ a. IsUnderWay steps longer start place old a) g (subst (λ a. IsUnderWay steps a start place old states) e w)
@@ -83,7 +83,7 @@ module _ (steps : List Step) (path : List ℕ) (start place : ℕ) (old states :
     | inr f ↦ f.1
   ]
 
-  pub out_at_split : slice_get steps place ≡ Some Splits → IsWalked steps (path ++ place ∷ []) (length (path ++ place ∷ [])) (set states place (Met (length path)))
+  pub out_at_split : slice_get steps place ≡ Some Splits → IsPathWalked steps (path ++ place ∷ []) (length (path ++ place ∷ [])) (set states place (Met (length path)))
   out_at_split here = record {
     known = met_states;
     within = omega arith;

@@ -8,10 +8,10 @@
 --                                       path, at their places, and each of them leads to the next
 --     EndsKnown steps path states       the last word of the path splits or leads to a known one
 --     IsRoundPath steps path first x    x is at that place of the path, and from there on each word leads to the next, the last to x
---     IsWalked steps path first states  the path is that of a walk: its last word leads to that at the place, or, where the place is the path's end,
+--     IsPathWalked steps path first states  the path is that of a walk: its last word leads to that at the place, or, where the place is the path's end,
 --                                       splits or leads to a known one
 --     StaysTold old states              a word that is new was new
---     IsSettled steps path old states   those of the path are left to settle, and its end leads to a known one
+--     IsPathSettled steps path old states  those of the path are left to settle, and its end leads to a known one
 --     AreAllKnown states                all courses are known
 use Rattle.std.specs.Prelude.{ℕ, ◌≡◌, ◌+◌, ◌≤◌, ◌<◌, List, length, Some, slice_get, get_or}
 use Rattle.ht_types.specs.declared.step.Step.{Step}
@@ -46,7 +46,7 @@ pub record IsRoundPath (steps : List Step) (path : List ℕ) (first x : ℕ) : T
   pub begins : slice_get path first ≡ Some x
   pub leads : (i : ℕ) → first ≤ i → i < length path → LeadsOn steps (get_or path i x) (get_or path (i + 1) x)
 
-pub record IsWalked (steps : List Step) (path : List ℕ) (first : ℕ) (states : List State) : Type 0 where
+pub record IsPathWalked (steps : List Step) (path : List ℕ) (first : ℕ) (states : List State) : Type 0 where
   pub known : AreStates steps path states
   pub within : first ≤ length path
   pub back : (i x y : ℕ) → i + 1 ≡ length path → slice_get path i ≡ Some x → slice_get path first ≡ Some y → LeadsOn steps x y
@@ -55,7 +55,7 @@ pub record IsWalked (steps : List Step) (path : List ℕ) (first : ℕ) (states 
 abbrev pub StaysTold : List State → List State → Type 0
 StaysTold old states = (x : ℕ) → slice_get states x ≡ Some New → slice_get old x ≡ Some New
 
-pub record IsSettled (steps : List Step) (path : List ℕ) (old states : List State) : Type 0 where
+pub record IsPathSettled (steps : List Step) (path : List ℕ) (old states : List State) : Type 0 where
   pub known : AreStates steps path states
   pub ends : EndsKnown steps path states
   pub told : StaysTold old states

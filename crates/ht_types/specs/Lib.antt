@@ -8,3 +8,5 @@ pub mod WordSteps
 pub mod Flows
 pub mod CycleWords
 pub mod Shares
+pub mod Links
+pub mod Points

@@ -1,7 +1,7 @@
 //! Where the steps of the words of a basis lead, one after another.
 ghost use Rattle.std.specs.Prelude.{◌≡◌, ◌≢◌, ◌-◌, ◌<◌, ◌≤◌, ◌++◌, [], ℕ, List, map, replicate, take, length, slice_get, slice_index, slice_set, Some, IfOk};
 ghost use Rattle.ht_types.specs.Courses.{AreInside, Goes, Turns, HasCourse, AreCourses};
-ghost use Rattle.ht_types.specs.CourseStates.{AreStates, AreAllKnown, IsNextKnown, IsWalked, IsRoundPath, IsSettled, StaysTold};
+ghost use Rattle.ht_types.specs.CourseStates.{AreStates, AreAllKnown, IsNextKnown, IsPathWalked, IsRoundPath, IsPathSettled, StaysTold};
 ghost use Rattle.ht_types.specs.declared.step.Step.TheVariants as step;
 ghost use Rattle.ht_types.specs.declared.course.State.TheVariants as state;
 
@@ -68,7 +68,7 @@ fn walk(
     requires start { start < length steps.now }
     requires path { path.old.items ≡ [] }
     requires states { AreStates steps.now [] states.old }
-    ensures walked { IfOk result (λ first. IsWalked steps.now path.new.items first states.new) }
+    ensures walked { IfOk result (λ first. IsPathWalked steps.now path.new.items first states.new) }
     ensures told { IfOk result (λ first. StaysTold states.old states.new × (slice_get states.new start ≢ Some state.New)) }
 {
     let mut place = start;
@@ -130,7 +130,7 @@ fn settle_round(
 ) -> Result<(), NoMemory>
     requires states { AreStates steps.now path.now states.old }
     requires round { IsRoundPath steps.now path.now first (slice_index path.now first) }
-    ensures { IfOk result (λ done. IsSettled steps.now (take first path.now) states.old states.new) }
+    ensures { IfOk result (λ done. IsPathSettled steps.now (take first path.now) states.old states.new) }
 {
     let m = (path.len() - first) as u64;
     let mut by = round_letters(alloc, steps, path, first)?;
@@ -209,8 +209,8 @@ fn unwind(
     states: &mut [State],
     path: &mut Vec<usize>,
 ) -> Result<(), NoMemory>
-    requires { IsSettled steps.now path.old.items states.old states.old }
-    ensures { IfOk result (λ done. IsSettled steps.now [] states.old states.new) }
+    requires { IsPathSettled steps.now path.old.items states.old states.old }
+    ensures { IfOk result (λ done. IsPathSettled steps.now [] states.old states.new) }
 {
     while let Some(place) = path.pop() {
         let course = course_at(alloc, steps, states, place)?;
@@ -227,8 +227,8 @@ fn settle_path(
     path: &mut Vec<usize>,
     first: usize,
 ) -> Result<(), NoMemory>
-    requires { IsWalked steps.now path.old.items first states.old }
-    ensures { IfOk result (λ done. IsSettled steps.now [] states.old states.new) }
+    requires { IsPathWalked steps.now path.old.items first states.old }
+    ensures { IfOk result (λ done. IsPathSettled steps.now [] states.old states.new) }
 {
     if first == path.len() {
         return unwind(alloc, steps, states, path);
@@ -248,7 +248,7 @@ fn settle_from(
     requires inside { AreInside steps.now }
     requires start { start < length steps.now }
     requires states { AreStates steps.now [] states.old }
-    ensures settled { IfOk result (λ done. IsSettled steps.now [] states.old states.new) }
+    ensures settled { IfOk result (λ done. IsPathSettled steps.now [] states.old states.new) }
     ensures start { IfOk result (λ done. slice_get states.new start ≢ Some state.New) }
 {
     let State::New = &states[start] else {

@@ -1,13 +1,12 @@
 //! Exits: letters behind a word under the infinite part with which its walk ends.
 ghost use Rattle.std.specs.Prelude.{◌≡◌, ◌≤◌, ◌<◌, ◌≢◌, length, ◌^◌, Some, slice_get, IfOk};
 ghost use Rattle.ht_word.specs.Words.{◌·◌, child, IsWordOf};
-ghost use Rattle.ht_types.specs.Flows.{LeadsIn, IsUnderInfinite, LeadsAway, IsExit, IsContinuedWith};
+ghost use Rattle.ht_types.specs.Flows.{IsUnderInfinite, LeadsAway, IsExit, IsContinuedWith};
 
 use crate::direction::Direction;
 use crate::kind::Kind;
 use crate::typed::Typed;
 use crate::walk::{Walk, holds_few, is_end, walk_of};
-use ht_pair::Element;
 use ht_word::{Letters, NoMemory, Word};
 use std::alloc::Global;
 
@@ -28,11 +27,9 @@ pub struct Exit {
 pub fn exit_of(
     alloc: Global,
     t: &Typed,
-    mover: &Element,
     direction: Direction,
     word: &Word,
 ) -> Result<Exit, NoMemory>
-    requires mover { LeadsIn direction t.now.element mover.now }
     requires word { IsWordOf t.now.element.shape word.now }
     requires infinite { IsUnderInfinite t.now.element.shape t.now.element.rows t.now.quasi.basis.words word.now }
     ensures { IfOk result (IsExit t.now.element.shape t.now.element.rows t.now.quasi.basis.words direction word.now) }
@@ -40,11 +37,11 @@ pub fn exit_of(
     t.keeps_kinds();
     holds_few(word);
     let mut letters = Letters::new(alloc);
-    let mut way = walk_of(alloc, t, mover, direction, word)?;
+    let mut way = walk_of(alloc, t, direction, word)?;
     'leaving: while !is_end(direction, t.kind(way.to)) {
         let letter = letter_away(direction, t.kind(way.to), way.rest.len());
         letters.push(letter)?;
-        way = further(alloc, t, mover, direction, way, letter)?;
+        way = further(alloc, t, direction, way, letter)?;
     }
     let Walk { steps, to, rest } = way;
     Ok(Exit {
@@ -59,12 +56,10 @@ pub fn exit_of(
 fn further(
     alloc: Global,
     t: &Typed,
-    mover: &Element,
     direction: Direction,
     way: Walk,
     letter: u8,
 ) -> Result<Walk, NoMemory>
-    requires mover { LeadsIn direction t.now.element mover.now }
     requires place { way.to < length t.now.quasi.basis.words }
     requires further { (x : Word) → slice_get t.now.quasi.basis.words way.to ≡ Some x → IsWordOf t.now.element.shape (child (x · way.rest) letter) × IsUnderInfinite t.now.element.shape t.now.element.rows t.now.quasi.basis.words (child (x · way.rest) letter) }
     requires few { way.steps < 2 ^ 121 }
@@ -77,7 +72,7 @@ fn further(
         .at(way.to)
         .joined(alloc, way.rest.as_slice())?;
     word.push(letter)?;
-    let more = walk_of(alloc, t, mover, direction, &word)?;
+    let more = walk_of(alloc, t, direction, &word)?;
     Ok(Walk {
         steps: way.steps + more.steps,
         to: more.to,

@@ -2,8 +2,8 @@
 
 use ht_word::{Letters, List};
 
-/// Where a passing word is first carried under an attractor or a repeller: by so many steps, from 1
-/// on, to the word of the basis at this place, from 0, with these letters behind it.
+/// Where steps carry a word under an attractor or a repeller: by so many steps, to the word of the
+/// basis at this place, from 0, with these letters behind it.
 #[derive(Debug, Drop)]
 pub struct Reach {
     pub steps: u128,
@@ -31,7 +31,7 @@ pub enum Kind {
         by: Letters,
     },
     /// None of these. A reach ahead is there exactly where the word stays ahead, a reach behind
-    /// exactly where it stays behind.
+    /// exactly where it stays behind; each is the first, from one step on.
     Passing {
         ahead: Option<Reach>,
         behind: Option<Reach>,

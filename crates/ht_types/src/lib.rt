@@ -8,6 +8,7 @@
 //! - `direction`: the two directions of walks
 //! - `walk`: walks of words, step by step under words of the basis
 //! - `exit`: letters behind a word with which its walk ends
+//! - `link`: links, and the places of atoms
 //! - `laws`: what holds of every such element, and of words that share an orbit
 //! - `sharing`: what tells whether words share an orbit; ponds
 //! - `step`: where one step of an element leads from a word of a basis
@@ -20,6 +21,7 @@ mod direction;
 mod exit;
 mod kind;
 pub mod laws;
+mod link;
 mod order;
 mod sharing;
 mod step;
@@ -30,8 +32,9 @@ mod walk;
 pub use direction::Direction;
 pub use exit::{Exit, exit_of};
 pub use kind::{Kind, Kinds, Reach};
+pub use link::{Atoms, Link, Links, Places};
 pub use order::{Order, Profile};
 pub use sharing::{Pond, Ponds, Sharing};
 pub use step::Step;
 pub use typed::{Typed, types};
-pub use walk::{Walk, mover, next_of, placed, walk_of};
+pub use walk::{Walk, next_of, placed, walk_of};

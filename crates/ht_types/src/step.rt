@@ -1,5 +1,5 @@
 //! Where one step of an element leads from a word of a basis.
-ghost use Rattle.std.specs.Prelude.{◌≡◌, IfOk};
+ghost use Rattle.std.specs.Prelude.{◌≡◌, pos, IfOk};
 ghost use Rattle.ht_word.specs.Words.{IsWordOf, IsUnderSome};
 ghost use Rattle.ht_pair.specs.SemiNormal.{IsQuasinormal};
 ghost use Rattle.ht_types.specs.WordSteps.{HasStep, AreSteps};
@@ -31,7 +31,7 @@ pub(crate) fn step_of(
     requires basis { IsQuasinormal a.now.shape a.now.rows basis.now.words }
     requires word { IsWordOf a.now.shape word.now }
     requires under { IsUnderSome word.now basis.now.words }
-    ensures { IfOk result (HasStep a.now.shape a.now.rows basis.now.words word.now) }
+    ensures { IfOk result (HasStep a.now.shape a.now.rows basis.now.words (pos 1) word.now) }
 {
     a.keeps_limits();
     let Some(moved) = a.move_word(alloc, word)? else {
@@ -51,7 +51,7 @@ pub(crate) fn step_of(
 pub(crate) fn steps(alloc: Global, a: &Element, basis: &Basis) -> Result<Steps, NoMemory>
     requires shape { basis.now.shape ≡ a.now.shape }
     requires basis { IsQuasinormal a.now.shape a.now.rows basis.now.words }
-    ensures { IfOk result (AreSteps a.now.shape a.now.rows basis.now.words) }
+    ensures { IfOk result (AreSteps a.now.shape a.now.rows basis.now.words (pos 1)) }
 {
     let mut steps = Steps::new(alloc);
     for word in basis.words().as_slice() {

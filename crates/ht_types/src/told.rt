@@ -1,52 +1,39 @@
 //! The kinds of the words of a basis, told from where the steps of an element and of its inverse lead.
-ghost use Rattle.std.specs.Prelude.{◌≡◌, ◌≢◌, ◌<◌, ◌^◌, [], ℕ, length, List, All, map, zip, IfOk};
+ghost use Rattle.std.specs.Prelude.{◌≡◌, ◌≢◌, ◌<◌, ◌^◌, [], ℕ, pos, neg_ℤ, length, All, map, zip, IfOk};
 ghost use Rattle.ht_pair.specs.SemiNormal.{IsQuasinormal};
-ghost use Rattle.ht_types.specs.declared.step.Step.{Step as StepValue};
 ghost use Rattle.ht_types.specs.declared.course.Course.{Course};
 ghost use Rattle.ht_types.specs.declared.course.Course.TheVariants as course;
-ghost use Rattle.ht_types.specs.Courses.{AreCourses};
 ghost use Rattle.ht_types.specs.TypedElements.{HasShortReaches};
 ghost use Rattle.ht_types.specs.WordKinds.{AreKinds};
 ghost use Rattle.ht_types.specs.WordSteps.{AreSteps, ReturnsToo, reach_of, turned_kind, told_kind};
 
 use crate::course::{Course, Courses, courses};
 use crate::kind::{Kind, Kinds, Reach};
-use crate::step::{Step, steps};
-use ht_ops::inverse;
+use crate::step::Step;
 use ht_pair::{Basis, Element};
 use ht_word::NoMemory;
 use std::alloc::Global;
 
-// The kinds of the words of the quasinormal basis, from the steps of the element. O(N log N)
-// comparisons of words for N words and rows, and one pass over these steps and those of the inverse.
+// The kinds of the words of the quasinormal basis, from the steps of the element and of its inverse. One
+// pass over the steps.
 pub(crate) fn kinds_of(
     alloc: Global,
     a: &Element,
     basis: &Basis,
-    steps: &[Step],
+    ahead: &[Step],
+    behind: &[Step],
 ) -> Result<Kinds, NoMemory>
-    requires shape { basis.now.shape ≡ a.now.shape }
     requires basis { IsQuasinormal a.now.shape a.now.rows basis.now.words }
     requires few { length basis.now.words < 2 ^ 121 }
-    requires steps { AreSteps a.now.shape a.now.rows basis.now.words steps.now }
+    requires ahead { AreSteps a.now.shape a.now.rows basis.now.words (pos 1) ahead.now }
+    requires behind { AreSteps a.now.shape a.now.rows basis.now.words (neg_ℤ (pos 1)) behind.now }
     ensures kinds { IfOk result (AreKinds a.now.shape a.now.rows basis.now.words) }
     ensures short { IfOk result (All HasShortReaches) }
 {
     a.keeps_limits();
-    let back = inverse(alloc, a)?;
-    let ahead = courses(alloc, steps)?;
-    let behind = courses_of(alloc, &back, basis)?;
+    let ahead = courses(alloc, ahead)?;
+    let behind = courses(alloc, behind)?;
     told_kinds(alloc, ahead, behind)
-}
-
-// Where the steps of the element lead from the words of the basis.
-fn courses_of(alloc: Global, a: &Element, basis: &Basis) -> Result<Courses, NoMemory>
-    requires shape { basis.now.shape ≡ a.now.shape }
-    requires basis { IsQuasinormal a.now.shape a.now.rows basis.now.words }
-    ensures { IfOk result (λ told. (steps : List StepValue) × AreSteps a.now.shape a.now.rows basis.now.words steps × AreCourses steps told) }
-{
-    let steps = steps(alloc, a, basis)?;
-    courses(alloc, steps.as_slice())
 }
 
 // The kinds that the courses tell. One pass; nothing is copied.

@@ -3,12 +3,15 @@ ghost use Rattle.std.specs.Prelude.{◌≡◌, ◌<◌, Some, length, slice_get,
 ghost use Rattle.ht_pair.specs.Bases.{TakesAtMost};
 ghost use Rattle.ht_quasi.specs.Quasis.{IsQuasi};
 ghost use Rattle.ht_word.specs.declared.word.Word.{Word};
+ghost use Rattle.ht_types.specs.Flows.{power_in, LeadsIn};
 ghost use Rattle.ht_types.specs.TypedElements.{IsTyped};
 ghost use Rattle.ht_types.specs.WordSteps.{HasStep};
 
+use crate::direction::Direction;
 use crate::kind::{Kind, Kinds};
 use crate::step::{Step, Steps, steps};
 use crate::told::kinds_of;
+use ht_ops::inverse;
 use ht_pair::Element;
 use ht_quasi::Quasi;
 use ht_word::NoMemory;
@@ -24,19 +27,22 @@ pub struct Typed {
     quasi: Quasi,
     // those of the words of the basis, in their order
     kinds: Kinds,
-    // the steps of the element from these words
-    steps: Steps,
+    // the inverse of the element
+    back: Element,
+    // the steps of the element from these words, and those of the inverse
+    ahead: Steps,
+    behind: Steps,
 }
 
 impl Model for Typed {
     ghost use Rattle.ht_types.specs.TypedElements.{TypedValue, IsTyped};
-    ghost use Rattle.ht_types.specs.WordSteps.{AreSteps};
+    ghost use Rattle.ht_types.specs.WordSteps.{HasSteps};
 
     ghost Value = { TypedValue };
 
     ghost view = { λ typed. record { element = typed.element; quasi = typed.quasi; kinds = typed.kinds } };
 
-    ghost invariant = { λ typed. IsTyped typed.element typed.quasi typed.kinds × AreSteps typed.element.shape typed.element.rows typed.quasi.basis.words typed.steps };
+    ghost invariant = { λ typed. IsTyped typed.element typed.quasi typed.kinds × HasSteps typed.element typed.quasi.basis.words typed.back typed.ahead typed.behind };
 }
 
 impl Typed {
@@ -50,7 +56,8 @@ impl Typed {
 
     /// The element. Takes no memory.
     pub fn element(&self) -> &Element
-        ensures { result.now ≡ self.now.element }
+        ensures element { result.now ≡ self.now.element }
+        ensures typed { IsTyped self.now.element self.now.quasi self.now.kinds }
     {
         &self.element
     }
@@ -58,7 +65,8 @@ impl Typed {
     /// Its quasinormal basis, with the rows of what one step carries under it and the classes of its
     /// words. Takes no memory.
     pub fn quasi(&self) -> &Quasi
-        ensures { result.now ≡ self.now.quasi }
+        ensures quasi { result.now ≡ self.now.quasi }
+        ensures typed { IsTyped self.now.element self.now.quasi self.now.kinds }
     {
         &self.quasi
     }
@@ -66,17 +74,33 @@ impl Typed {
     /// The kind of the word of the basis at a place, counted from 0. Constant time; takes no memory.
     pub fn kind(&self, place: usize) -> &Kind
         requires { place < length self.now.quasi.basis.words }
-        ensures { slice_get self.now.kinds place ≡ Some (result.now) }
+        ensures kind { slice_get self.now.kinds place ≡ Some (result.now) }
+        ensures typed { IsTyped self.now.element self.now.quasi self.now.kinds }
     {
         self.kinds.at(place)
     }
 
-    // Where one step of the element leads from the word of the basis at a place. Constant time.
-    pub(crate) fn step(&self, place: usize) -> &Step
-        requires { place < length self.now.quasi.basis.words }
-        ensures { (x : Word) → slice_get self.now.quasi.basis.words place ≡ Some x → HasStep self.now.element.shape self.now.element.rows self.now.quasi.basis.words x result.now }
+    /// The element that makes the steps in the direction: the element itself, or its inverse. Takes no
+    /// memory.
+    pub fn mover(&self, direction: Direction) -> &Element
+        ensures { LeadsIn direction self.now.element result.now }
     {
-        self.steps.at(place)
+        match direction {
+            Direction::Ahead => &self.element,
+            Direction::Behind => &self.back,
+        }
+    }
+
+    /// Where one step in the direction leads from the word of the basis at a place, counted from 0.
+    /// Constant time; takes no memory.
+    pub fn step_in(&self, direction: Direction, place: usize) -> &Step
+        requires { place < length self.now.quasi.basis.words }
+        ensures { (x : Word) → slice_get self.now.quasi.basis.words place ≡ Some x → HasStep self.now.element.shape self.now.element.rows self.now.quasi.basis.words (power_in direction 1) x result.now }
+    {
+        match direction {
+            Direction::Ahead => self.ahead.at(place),
+            Direction::Behind => self.behind.at(place),
+        }
     }
 
     /// The kinds alone, in the order of the words. Takes no memory.
@@ -87,7 +111,9 @@ impl Typed {
             element: _,
             quasi: _,
             kinds,
-            steps: _,
+            back: _,
+            ahead: _,
+            behind: _,
         } = self;
         kinds
     }
@@ -104,13 +130,17 @@ pub fn types(alloc: Global, a: &Element, quasi: Quasi) -> Result<Typed, NoMemory
     ensures kinds { IfOk result (λ typed. IsTyped a.now quasi typed.kinds) }
 {
     a.keeps_limits();
-    let steps = steps(alloc, a, &quasi.basis)?;
-    let kinds = kinds_of(alloc, a, &quasi.basis, steps.as_slice())?;
+    let back = inverse(alloc, a)?;
+    let ahead = steps(alloc, a, &quasi.basis)?;
+    let behind = steps(alloc, &back, &quasi.basis)?;
+    let kinds = kinds_of(alloc, a, &quasi.basis, ahead.as_slice(), behind.as_slice())?;
     let element = a.copy(alloc)?;
     Ok(Typed {
         element,
         quasi,
         kinds,
-        steps,
+        back,
+        ahead,
+        behind,
     })
 }

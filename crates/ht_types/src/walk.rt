@@ -2,15 +2,13 @@
 //! basis.
 ghost use Rattle.std.specs.Prelude.{◌≡◌, ◌<◌, ◌↔◌, ◌^◌, Some, length, slice_get, IsTrue, IfOk};
 ghost use Rattle.ht_word.specs.Words.{◌·◌, IsUnderSome, IsWordOf};
-ghost use Rattle.ht_types.specs.Flows.{LeadsIn, IsUnderInfinite, IsWholeWalk, IsEndKind, IsPlaced};
+ghost use Rattle.ht_types.specs.Flows.{power_in, IsUnderInfinite, IsWholeWalk, IsEndKind, IsPlaced};
 ghost use Rattle.ht_types.specs.WordSteps.{HasStep};
 
 use crate::direction::Direction;
 use crate::kind::Kind;
 use crate::step::{Step, step_of};
 use crate::typed::Typed;
-use ht_ops::inverse;
-use ht_pair::Element;
 use ht_word::{Letters, NoMemory, Word};
 use std::alloc::Global;
 
@@ -23,36 +21,23 @@ pub struct Walk {
     pub rest: Letters,
 }
 
-/// The element that makes the steps of walks in the direction: the element itself, or its inverse.
-pub fn mover(alloc: Global, t: &Typed, direction: Direction) -> Result<Element, NoMemory>
-    ensures { IfOk result (LeadsIn direction t.now.element) }
-{
-    match direction {
-        Direction::Ahead => t.element().copy(alloc),
-        Direction::Behind => inverse(alloc, t.element()),
-    }
-}
-
 /// The walk from a word under the infinite part, until it is under an attractor (ahead) or a
 /// repeller (behind), or the next step carries it to no word under the basis. At most
 /// N(l + 1) steps (`next_of`) for N words of the basis and l letters of the word.
 pub fn walk_of(
     alloc: Global,
     t: &Typed,
-    mover: &Element,
     direction: Direction,
     word: &Word,
 ) -> Result<Walk, NoMemory>
-    requires mover { LeadsIn direction t.now.element mover.now }
     requires word { IsWordOf t.now.element.shape word.now }
     requires infinite { IsUnderInfinite t.now.element.shape t.now.element.rows t.now.quasi.basis.words word.now }
     ensures { IfOk result (IsWholeWalk t.now.element.shape t.now.element.rows t.now.quasi.basis.words direction word.now) }
 {
-    t.keeps_kinds();
     holds_few(word);
     let mut walk = placed(alloc, t, word)?;
     'walking: while !is_end(direction, t.kind(walk.to)) {
-        let Step::Leads { to, rest } = next_of(alloc, t, mover, direction, &walk)? else {
+        let Step::Leads { to, rest } = next_of(alloc, t, direction, &walk)? else {
             return Ok(walk);
         };
         walk = Walk {
@@ -71,37 +56,32 @@ pub(crate) fn holds_few(word: &Word)
     let _ = word.letters.len();
 }
 
-/// Where one step leads from where the walk has come. Ahead a look-up, unless one step carries the
-/// word of the basis there to no word under it; else two binary searches. Copies the letters.
+/// Where one step leads from where the walk has come: a look-up, unless one step carries the word of
+/// the basis there to no word under it; else two binary searches. Copies the letters.
 pub fn next_of(
     alloc: Global,
     t: &Typed,
-    mover: &Element,
     direction: Direction,
     walk: &Walk,
 ) -> Result<Step, NoMemory>
-    requires mover { LeadsIn direction t.now.element mover.now }
     requires place { walk.now.to < length t.now.quasi.basis.words }
-    requires word { (x : Word) → slice_get t.now.quasi.basis.words walk.now.to ≡ Some x → IsWordOf mover.now.shape (x · walk.now.rest) }
-    ensures { IfOk result (λ step. (x : Word) → slice_get t.now.quasi.basis.words walk.now.to ≡ Some x → HasStep mover.now.shape mover.now.rows t.now.quasi.basis.words (x · walk.now.rest) step) }
+    requires word { (x : Word) → slice_get t.now.quasi.basis.words walk.now.to ≡ Some x → IsWordOf t.now.element.shape (x · walk.now.rest) }
+    ensures { IfOk result (λ step. (x : Word) → slice_get t.now.quasi.basis.words walk.now.to ≡ Some x → HasStep t.now.element.shape t.now.element.rows t.now.quasi.basis.words (power_in direction 1) (x · walk.now.rest) step) }
 {
-    t.keeps_kinds();
-    if let Direction::Ahead = direction {
-        if let Step::Leads { to, rest } = t.step(walk.to) {
-            let mut letters = Letters::from_slice(alloc, rest.as_slice())?;
-            letters.extend(walk.rest.as_slice())?;
-            return Ok(Step::Leads {
-                to: *to,
-                rest: letters,
-            });
-        }
+    if let Step::Leads { to, rest } = t.step_in(direction, walk.to) {
+        let mut letters = Letters::from_slice(alloc, rest.as_slice())?;
+        letters.extend(walk.rest.as_slice())?;
+        return Ok(Step::Leads {
+            to: *to,
+            rest: letters,
+        });
     }
     let basis = &t.quasi().basis;
     let word = basis
         .words()
         .at(walk.to)
         .joined(alloc, walk.rest.as_slice())?;
-    step_of(alloc, mover, basis, &word)
+    step_of(alloc, t.mover(direction), basis, &word)
 }
 
 /// The walk of no steps. A binary search.

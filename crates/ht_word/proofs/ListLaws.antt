@@ -1,6 +1,6 @@
 -- Elements of lists, and facts for each two elements.
 use Rattle.std.proofs.Common.{◌≡◌, ℕ, zero, suc, ◌<◌, ◌⊎◌, inl, inr, List, [], ◌∷◌, ◌++◌, length, map, get_or, refl, sym, ap, ◌∙◌, subst, subst₂, arith, All, AllPairs, Contains, flat_map}
-use Rattle.std.proofs.lemmas.List.{get_or_default, get_or-map, length-map}
+use Rattle.std.proofs.lemmas.List.{get_or_default, get_or-map, length-map, length-append}
 use Rattle.std.proofs.lemmas.List.Elements.{Contains-get_or, All-append, All-contains, All-map, Contains-append_left, Contains-append_right, Contains-append_cases}
 use Rattle.ht_word.proofs.WordLaws.{All-from_contains}
 
@@ -155,3 +155,10 @@ ascending_same R once (x ∷ xs) (y ∷ ys) h g to from =
       | inl s ↦ (let loop : R x x = subst (λ t. R x t) (sym (same ∙ s)) (All-contains (R x) xs z (AllPairs-head R x xs h) c) in absurd (once x x loop loop))
       | inr k ↦ k
     ]
+
+-- lists with one item behind them that are equal have equal last items
+pub last_same : {X : Type 0} (xs ys : List X) (x y : X) → xs ++ x ∷ [] ≡ ys ++ y ∷ [] → x ≡ y
+last_same [] [] x y e = cc
+last_same [] (b ∷ ys) x y e = absurd (omega (arith, length-append ys (y ∷ []), ap (λ t. length t) e))
+last_same (a ∷ xs) [] x y e = absurd (omega (arith, length-append xs (x ∷ []), ap (λ t. length t) e))
+last_same (a ∷ xs) (b ∷ ys) x y e = last_same xs ys x y (cc)

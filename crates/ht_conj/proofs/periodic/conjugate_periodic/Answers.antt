@@ -14,7 +14,7 @@ reduce_rows-requires c =
     let both = typed_periodic f g c.requires.shape c.keeps_kinds.ensures c.keeps_kinds-2.ensures c.requires.first c.requires.second in
     let told = subst (TellsMatch f.element.shape f.element.rows f.quasi.basis.words g.element.rows g.quasi.basis.words) c.in-Some.is c.in_ok-rows.ensures in
     let pair = (match_conjugates f.element.shape f.element.rows f.quasi.basis.words g.element.rows g.quasi.basis.words c.in-Some.rows both told).pair in
-    subst (λ (s : Shape). IsPair s c.in-Some.rows) (ap (λ (e : ElementValue). e.shape) (sym c.element.ensures) ∙ sym c.shape.ensures) pair
+    subst (λ (s : Shape). IsPair s c.in-Some.rows) (ap (λ (e : ElementValue). e.shape) (sym c.element.ensures.element) ∙ sym c.shape.ensures) pair
 
 pub returns-in_ok-reduced-in-Some : goal.returns-in_ok-reduced-in-Some
 returns-in_ok-reduced-in-Some c =
@@ -23,7 +23,7 @@ returns-in_ok-reduced-in-Some c =
     let both = typed_periodic f g c.requires.shape c.keeps_kinds.ensures c.keeps_kinds-2.ensures c.requires.first c.requires.second in
     let told = subst (TellsMatch f.element.shape f.element.rows f.quasi.basis.words g.element.rows g.quasi.basis.words) c.in-Some.is c.in_ok-rows.ensures in
     match_verdict f.element.shape f.element.rows f.quasi.basis.words g.element.rows g.quasi.basis.words c.in-Some.rows c.in_ok-reduced-in-Some.reduced both told
-    (subst (λ (s : Shape). IsCanonicalFor s c.in_ok-reduced-in-Some.reduced c.in-Some.rows) (c.shape.ensures ∙ ap (λ (e : ElementValue). e.shape) c.element.ensures) c.in_ok-reduced-in-Some.ensures.canonical)
+    (subst (λ (s : Shape). IsCanonicalFor s c.in_ok-reduced-in-Some.reduced c.in-Some.rows) (c.shape.ensures ∙ ap (λ (e : ElementValue). e.shape) c.element.ensures.element) c.in_ok-reduced-in-Some.ensures.canonical)
 
 pub returns-in-None : goal.returns-in-None
 returns-in-None c =

@@ -1,7 +1,7 @@
 use Rattle.std.proofs.Common.{◌≡◌, ◌++◌, List, pos}
 use Rattle.ht_pair.specs.Steps.{Carries}
 use Rattle.ht_pair.specs.declared.row.Row.{Row}
-use Rattle.ht_cycles.specs.Cycles.{IsRound}
+use Rattle.ht_cycles.specs.Cycles.{IsMatchedRound}
 use Rattle.ht_cycles.proofs.matches.add_round.Given as goal
 
 abbrev pub invariant-loop : goal.invariant-loop
@@ -10,5 +10,5 @@ invariant-loop l = record {
   second : Carries l.f.shape l.g.rows (pos l.counter) l.to l.v;
   added : List Row;
   is : l.rows ≡ l.fn.rows ++ added;
-  round : IsRound l.f.shape l.f.rows l.g.rows l.counter l.from l.to added;
+  round : IsMatchedRound l.f.shape l.f.rows l.g.rows l.counter l.from l.to added;
 }

@@ -12,7 +12,7 @@ loop-place-preserved c =
     let list = c.loop-place.list in
     let new = c.add_children.new.words in
     let place = c.loop-place.place in
-    let same : c.shape-shape.result ≡ t.element.shape = c.shape-shape.ensures ∙ ap (λ (e : ElementValue). e.shape) c.element.ensures in
+    let same : c.shape-shape.result ≡ t.element.shape = c.shape-shape.ensures ∙ ap (λ (e : ElementValue). e.shape) c.element.ensures.element in
     let low : 1 ≤ t.element.shape.n = omega (arith, t.element.shape.letters_low) in
     let inside : place < length list = omega (arith, c.loop-place.invariant.size, c.requires, mul-le-mul_left place low) in
     record {

@@ -24,7 +24,7 @@ add_rounds-requires-clause-many c =
     let R = c.args.first.now in
     let S = c.args.second.now in
     let most = c.max-most.result in
-    let given = c.shape.ensures ∙ ap (λ (e : ElementValue). e.shape) c.element.ensures in
+    let given = c.shape.ensures ∙ ap (λ (e : ElementValue). e.shape) c.element.ensures.element in
     let first = is_expanded shape shape c.shape.result f.element.rows f.quasi.basis.words (ready f.element f.quasi f.kinds shape c.keeps_kinds.ensures refl) c.args.m (length S) most ((most - length R) / (c.shape.result.n - 1)) R c.in_ok-from.from c.as_slice.result.now refl given c.requires.first c.requires.alike c.max-most.ensures refl c.in_ok-from.ensures.size c.in_ok-from.ensures.seeds c.as_slice.ensures in
     let second = is_expanded shape g.element.shape c.shape.result g.element.rows g.quasi.basis.words (ready g.element g.quasi g.kinds shape c.keeps_kinds-2.ensures c.requires.shape) c.args.m (length R) most ((most - length S) / (c.shape.result.n - 1)) S c.in_ok-to.to c.as_slice-2.result.now c.requires.shape given c.requires.second (sym c.requires.alike) (omega (arith, c.max-most.ensures)) refl c.in_ok-to.ensures.size c.in_ok-to.ensures.seeds c.as_slice-2.ensures in
     first.size ∙ sym second.size
@@ -38,10 +38,10 @@ add_rounds-requires-clause-from c =
     let times = (most - length R) / (c.shape.result.n - 1) in
     let held = c.as_slice.result.now in
     let ready_f = ready f.element f.quasi f.kinds shape c.keeps_kinds.ensures refl in
-    let given = c.shape.ensures ∙ ap (λ (e : ElementValue). e.shape) c.element.ensures in
+    let given = c.shape.ensures ∙ ap (λ (e : ElementValue). e.shape) c.element.ensures.element in
     let first = is_expanded shape shape c.shape.result f.element.rows f.quasi.basis.words ready_f c.args.m (length c.args.second.now) most times R c.in_ok-from.from held refl given c.requires.first c.requires.alike c.max-most.ensures refl c.in_ok-from.ensures.size c.in_ok-from.ensures.seeds c.as_slice.ensures in
     let us = take (length held - times) (drop times held) in
-    subst (λ (e : ElementValue). (u : Word) → Contains us u → GoesOn e.shape e.rows u) (sym c.element-2.ensures) (all_go_on shape f.element.rows f.quasi.basis.words ready_f c.args.m most us first)
+    subst (λ (e : ElementValue). (u : Word) → Contains us u → GoesOn e.shape e.rows u) (sym c.element-2.ensures.element) (all_go_on shape f.element.rows f.quasi.basis.words ready_f c.args.m most us first)
 
 pub add_rounds-requires-clause-to : goal.add_rounds-requires-clause-to
 add_rounds-requires-clause-to c =
@@ -53,10 +53,10 @@ add_rounds-requires-clause-to c =
     let times = (most - length S) / (c.shape.result.n - 1) in
     let held = c.as_slice-2.result.now in
     let ready_g = ready g.element g.quasi g.kinds shape c.keeps_kinds-2.ensures c.requires.shape in
-    let given = c.shape.ensures ∙ ap (λ (e : ElementValue). e.shape) c.element.ensures in
+    let given = c.shape.ensures ∙ ap (λ (e : ElementValue). e.shape) c.element.ensures.element in
     let second = is_expanded shape g.element.shape c.shape.result g.element.rows g.quasi.basis.words ready_g c.args.m (length c.args.first.now) most times S c.in_ok-to.to held c.requires.shape given c.requires.second (sym c.requires.alike) (omega (arith, c.max-most.ensures)) refl c.in_ok-to.ensures.size c.in_ok-to.ensures.seeds c.as_slice-2.ensures in
     let vs = take (length held - times) (drop times held) in
-    subst₂ (λ (d e : ElementValue). (v : Word) → Contains vs v → GoesOn d.shape e.rows v) (sym c.element-2.ensures) (sym c.element-3.ensures) (all_go_on shape g.element.rows g.quasi.basis.words ready_g c.args.m most vs second)
+    subst₂ (λ (d e : ElementValue). (v : Word) → Contains vs v → GoesOn d.shape e.rows v) (sym c.element-2.ensures.element) (sym c.element-3.ensures.element) (all_go_on shape g.element.rows g.quasi.basis.words ready_g c.args.m most vs second)
 
 pub returns : goal.returns
 returns c =
@@ -74,11 +74,11 @@ returns c =
     let vs = take (length c.as_slice-2.result.now - behind) (drop behind c.as_slice-2.result.now) in
     let ready_f = ready f.element f.quasi f.kinds shape c.keeps_kinds.ensures refl in
     let ready_g = ready g.element g.quasi g.kinds shape c.keeps_kinds-2.ensures c.requires.shape in
-    let given = c.shape.ensures ∙ ap (λ (e : ElementValue). e.shape) c.element.ensures in
+    let given = c.shape.ensures ∙ ap (λ (e : ElementValue). e.shape) c.element.ensures.element in
     let first = is_expanded shape shape c.shape.result f.element.rows X ready_f c.args.m (length S) most ahead R c.in_ok-from.from c.as_slice.result.now refl given c.requires.first c.requires.alike c.max-most.ensures refl c.in_ok-from.ensures.size c.in_ok-from.ensures.seeds c.as_slice.ensures in
     let second = is_expanded shape g.element.shape c.shape.result g.element.rows Y ready_g c.args.m (length R) most behind S c.in_ok-to.to c.as_slice-2.result.now c.requires.shape given c.requires.second (sym c.requires.alike) (omega (arith, c.max-most.ensures)) refl c.in_ok-to.ensures.size c.in_ok-to.ensures.seeds c.as_slice-2.ensures in
     on_ok_weaker c.add_rounds.result
     (λ more.
     match_grown shape f.element.rows g.element.rows X Y ready_f ready_g c.args.m most R S us vs c.args.rows.now more.0 c.add_rounds.new.rows c.requires.first c.requires.second first second c.max-most.ensures c.requires.below more.1
-    (subst₂ (λ (d e : ElementValue). AreRounds d.shape d.rows e.rows c.args.m us vs more.0) c.element-2.ensures c.element-3.ensures more.2))
+    (subst₂ (λ (d e : ElementValue). AreRounds d.shape d.rows e.rows c.args.m us vs more.0) c.element-2.ensures.element c.element-3.ensures.element more.2))
     c.add_rounds.ensures

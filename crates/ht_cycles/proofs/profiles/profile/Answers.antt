@@ -18,5 +18,5 @@ returns c =
     IfOk-weaker c.profile_of.result (λ profile. profile ≡ runs c.shape.result.n 0 c.as_slice.result.now) (IsProfile c.args.t.now.element.shape c.args.t.now.element.rows c.args.t.now.quasi.basis.words)
     (λ profile is.
     profile_given c.args.t.now.element.shape c.shape.result c.args.t.now.element.rows c.args.t.now.quasi.basis.words c.args.t.now.kinds c.in_ok-lengths.lengths.items c.sort_unstable.new.self.items c.as_slice.result.now profile
-    (c.shape.ensures ∙ ap (λ (t : ElementValue). t.shape) c.element.ensures) c.in_ok-lengths.ensures c.as_slice.ensures.value is k.canonical.canonical.pair k.quasinormal.least.ascending k.kinds_are c.sort_unstable.ensures.permutation c.sort_unstable.ensures.sorted)
+    (c.shape.ensures ∙ ap (λ (t : ElementValue). t.shape) c.element.ensures.element) c.in_ok-lengths.ensures c.as_slice.ensures.value is k.canonical.canonical.pair k.quasinormal.least.ascending k.kinds_are c.sort_unstable.ensures.permutation c.sort_unstable.ensures.sorted)
     c.profile_of.ensures

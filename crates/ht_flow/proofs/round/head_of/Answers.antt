@@ -1,9 +1,9 @@
 use Rattle.std.proofs.Common.{◌≡◌, refl, subst, arith}
 use Rattle.std.proofs.lemmas.Option.{slice_get_within}
 use Rattle.ht_flow.specs.Rounds.{IsHead}
-use Rattle.ht_flow.proofs.FlowingLaws.{typed_base}
 use Rattle.ht_flow.proofs.HeadLaws.{attractor_of, round_begins, round_more, stage_ahead, stage_few}
 use Rattle.ht_flow.proofs.round.head_of.Goals as goal
+use Rattle.ht_types.proofs.TypedLaws.{typed_base}
 
 pub loop-step-init : goal.loop-step-init
 loop-step-init c = λ x here. round_begins (typed_base c.args.t.now c.keeps_kinds.ensures) x (record { steps = 0; at = c.args.at; letters = 0 }) here refl refl

@@ -1,4 +1,4 @@
-use Rattle.ht_laws.proofs.AtomLaws.{atoms_apart}
+use Rattle.ht_types.proofs.AtomLaws.{atoms_apart}
 use Rattle.ht_laws.proofs.orbits.atoms_are_apart.Goals as goal
 
 pub returns : goal.returns

@@ -8,5 +8,5 @@ loop-row-preserved c =
     let p : List Row = c.args.rows.now in
     let place = c.loop-row.row-index in
     let next : drop place p ≡ c.row-item.result ∷ drop (place + 1) p = next_row p place c.row-item.result c.loop-row-test.true c.row-item.is in
-    one_more_block c.args.shape p c.args.others.now c.loop-row.blocks (drop (place + 1) p) c.add_block.new.rows c.row-item.result c.requires.table
+    one_more_block c.args.shape p c.args.others.now c.loop-row.blocks (drop (place + 1) p) c.add_block.new.rows c.row-item.result c.requires.table c.requires.basis c.requires.ascending
     (subst (AreBlocksUpTo c.args.shape p c.args.others.now c.loop-row.blocks) next c.loop-row.invariant) c.in_ok-add_block.ensures

@@ -1,30 +1,31 @@
 use Rattle.std.proofs.Common.{◌≡◌, sym, subst}
+use Rattle.std.proofs.lemmas.Result.{IfOk-weaker}
 use Rattle.ht_word.specs.declared.shape.Shape.{Shape}
-use Rattle.ht_pair.specs.declared.fault.OpFault.TheVariants as op_fault
-use Rattle.ht_pair.specs.declared.fault.RowsFault.TheVariants as rows_fault
+use Rattle.ht_pair.specs.Actions.{IsCanonicalFor}
+use Rattle.ht_pair.specs.Elements.{ElementValue}
 use Rattle.ht_pair.specs.Pairs.{IsPair}
-use Rattle.ht_pair.specs.RowsFaults.{IsRowsFault}
+use Rattle.ht_pair.specs.Products.{IsProduct}
 use Rattle.ht_pair.specs.Sizes.{IsLarge}
-use Rattle.ht_ops.proofs.Faults.{pair_fault}
-use Rattle.ht_ops.proofs.AlikeProducts.{product_canonical, product_not_large}
+use Rattle.ht_ops.proofs.AlikeProducts.{product_canonical, made_not_large}
 use Rattle.ht_ops.proofs.products.product.Goals as goal
 
-pub op_fault-requires : goal.op_fault-requires
-op_fault-requires c = pair_fault c.shape.result c.in_ok-rows.rows c.in-Err.fault (subst (λ (s : Shape). IsPair s c.in_ok-rows.rows) (sym c.shape.ensures) c.in_ok-rows.ensures.product.pair) c.in-Err.ensures.fault
+pub of_pair-requires-clause-pair : goal.of_pair-requires-clause-pair
+of_pair-requires-clause-pair c = subst (λ (s : Shape). IsPair s c.in_ok-rows.rows) (sym c.shape.ensures) c.in_ok-rows.ensures.product.product.pair
 
-pub returns-in-Ok-clause-product : goal.returns-in-Ok-clause-product
-returns-in-Ok-clause-product c =
-    product_canonical c.args.a.now.shape c.shape.result c.args.a.now.rows c.args.b.now.rows c.in_ok-rows.rows c.in-Ok.element c.shape.ensures c.in_ok-rows.ensures.first c.in_ok-rows.ensures.second
-    c.in_ok-rows.ensures.product c.in-Ok.ensures.canonical
+pub returns-clause-product : goal.returns-clause-product
+returns-clause-product c =
+    let shape = c.args.a.now.shape in
+    let p = c.args.a.now.rows in
+    let q = c.args.b.now.rows in
+    IfOk-weaker c.of_pair.result (λ (e : ElementValue). (e.shape ≡ c.shape.result) × IsCanonicalFor c.shape.result e.rows c.in_ok-rows.rows) (λ (e : ElementValue). (e.shape ≡ shape) × IsProduct shape p q e.rows)
+    (λ e h. product_canonical shape c.shape.result p q c.in_ok-rows.rows e c.shape.ensures c.in_ok-rows.ensures.first c.in_ok-rows.ensures.second c.in_ok-rows.ensures.product.product h)
+    c.of_pair.ensures.canonical
 
-pub returns-in-Ok-clause-kept : goal.returns-in-Ok-clause-kept
-returns-in-Ok-clause-kept c =
-    product_not_large c.args.a.now.shape c.shape.result c.args.a.now.rows c.args.b.now.rows c.in_ok-rows.rows c.in-Ok.element c.shape.ensures c.in_ok-rows.ensures.first c.in_ok-rows.ensures.second
-    c.in_ok-rows.ensures.product c.in-Ok.ensures.canonical c.in-Ok.ensures.small
+pub returns-clause-kept : goal.returns-clause-kept
+returns-clause-kept c =
+    made_not_large c.args.a.now.shape c.shape.result c.args.a.now.rows c.args.b.now.rows c.in_ok-rows.rows c.of_pair.result c.shape.ensures c.in_ok-rows.ensures.first c.in_ok-rows.ensures.second
+    c.in_ok-rows.ensures.product.product c.of_pair.ensures.canonical c.of_pair.ensures.small
 
-pub returns-in-Err-clause-large : goal.returns-in-Err-clause-large
-returns-in-Err-clause-large c = λ rows letters is.
-    let passed : c.op_fault.result ≡ op_fault.Large rows letters = cc in
-    let same : c.in-Err.fault ≡ rows_fault.Large rows letters = (c.op_fault.ensures rows letters).0 passed in
-    let large = (subst (IsRowsFault c.shape.result c.in_ok-rows.rows) same c.in-Err.ensures.fault).1 in
-    (c.in_ok-rows.rows, c.in_ok-rows.ensures.product, subst (λ (s : Shape). IsLarge s c.in_ok-rows.rows rows letters) c.shape.ensures large)
+pub returns-clause-large : goal.returns-clause-large
+returns-clause-large c = λ rows letters is.
+    (c.in_ok-rows.rows, c.in_ok-rows.ensures.product.product, subst (λ (s : Shape). IsLarge s c.in_ok-rows.rows rows letters) c.shape.ensures (c.of_pair.ensures.large rows letters is))

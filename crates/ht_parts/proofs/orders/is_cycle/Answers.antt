@@ -2,7 +2,7 @@ use Rattle.ht_parts.proofs.CycleTests.{cycle_tested, other_tested}
 use Rattle.ht_parts.proofs.orders.is_cycle.Goals as goal
 
 pub returns-in-Cycle : goal.returns-in-Cycle
-returns-in-Cycle c = cycle_tested c.args.t.now.element c.args.t.now.quasi c.args.t.now.kinds c.args.place c.kind.result.now c.in-Cycle.m c.keeps_kinds.ensures c.kind.ensures c.in-Cycle.is
+returns-in-Cycle c = cycle_tested c.args.t.now.element c.args.t.now.quasi c.args.t.now.kinds c.args.place c.kind.result.now c.in-Cycle.m c.keeps_kinds.ensures c.kind.ensures.kind c.in-Cycle.is
 
 pub returns-in_default : goal.returns-in_default
-returns-in_default c = other_tested c.args.t.now.element c.args.t.now.quasi c.args.t.now.kinds c.args.place c.kind.result.now c.keeps_kinds.ensures c.kind.ensures c.in_default.not-Cycle
+returns-in_default c = other_tested c.args.t.now.element c.args.t.now.quasi c.args.t.now.kinds c.args.place c.kind.result.now c.keeps_kinds.ensures c.kind.ensures.kind c.in_default.not-Cycle

@@ -2,7 +2,7 @@ use Rattle.std.proofs.Common.{◌≡◌, Bool, List, length, refl, sym, ap, ◌�
 use Rattle.ht_word.specs.declared.shape.Shape.{Shape}
 use Rattle.ht_pair.specs.HeldBases.{expanded_at}
 use Rattle.ht_quasi.specs.Kept.{place_after}
-use Rattle.ht_quasi.specs.Rounds.{AreSteps}
+use Rattle.ht_quasi.specs.Rounds.{AreRoundSteps}
 use Rattle.ht_quasi.proofs.ExpandedLaws.{count_set}
 use Rattle.ht_quasi.proofs.LeastLaws.{at_roots, after_round, least_at_end, over_budget, not_enough, words_after, places_bad, round_marks, renewed, told_inside}
 use Rattle.ht_quasi.proofs.RoundLaws.{inside_steps}
@@ -12,13 +12,13 @@ pub rounds-init : goal.rounds-init
 rounds-init c = record {
   way = at_roots c.args.a.now.shape c.shape.result c.args.a.now.rows c.args.budget c.in_ok-basis.basis c.shape.ensures c.in_ok-basis.ensures;
   steps = c.in_ok-ahead.ensures;
-  back = subst (λ (s : Shape). AreSteps s c.args.back.now.rows c.in_ok-basis.basis.words c.in_ok-behind.behind) c.requires.shape c.in_ok-behind.ensures;
+  back = subst (λ (s : Shape). AreRoundSteps s c.args.back.now.rows c.in_ok-basis.basis.words c.in_ok-behind.behind) c.requires.shape c.in_ok-behind.ensures;
 }
 
 pub bad_places-requires-clause-inside : goal.bad_places-requires-clause-inside
 bad_places-requires-clause-inside c =
     let a = c.args.a.now in
-    inside_steps a.shape a.rows c.rounds.basis.words c.as_slice.result.now (subst (AreSteps a.shape a.rows c.rounds.basis.words) (sym c.as_slice.ensures) c.rounds.invariant.steps)
+    inside_steps a.shape a.rows c.rounds.basis.words c.as_slice.result.now (subst (AreRoundSteps a.shape a.rows c.rounds.basis.words) (sym c.as_slice.ensures) c.rounds.invariant.steps)
 
 pub returns-then-count-eq0-clause-least : goal.returns-then-count-eq0-clause-least
 returns-then-count-eq0-clause-least c =

@@ -1,7 +1,7 @@
 use Rattle.std.proofs.Common.{◌≡◌, length, arith, subst}
 use Rattle.std.proofs.lemmas.Bool.Decides.{nat_tests}
 use Rattle.ht_text.specs.Fronts.{IsLongestFront}
-use Rattle.ht_script.specs.Slots.{ending_of, IsBehind}
+use Rattle.ht_script.specs.Slots.{ending_of, FitsSlots}
 use Rattle.ht_script.proofs.LineLaws.{longest_blank, longest_in_word, longest_to_word, longest_past_word}
 use Rattle.ht_script.proofs.front.command_front.Goals as goal
 
@@ -20,5 +20,5 @@ returns-then-is_empty c =
 pub returns : goal.returns
 returns c =
     longest_past_word c.args.line.now c.in-Some.at c.in-Some.token.now c.in-Some.rest.now c.in-Some-of_keyword.command c.slots_front-behind.result c.requires c.in-Some.ensures c.in-Some-of_keyword.ensures
-    (subst (λ s. IsLongestFront (IsBehind (ending_of c.in-Some-of_keyword.command) s) c.in-Some.rest.now c.slots_front-behind.result) c.slots.ensures
-    (subst (λ e. IsLongestFront (IsBehind e c.slots.result.now) c.in-Some.rest.now c.slots_front-behind.result) c.ending.ensures c.slots_front-behind.ensures))
+    (subst (λ s. IsLongestFront (FitsSlots (ending_of c.in-Some-of_keyword.command) s) c.in-Some.rest.now c.slots_front-behind.result) c.slots.ensures
+    (subst (λ e. IsLongestFront (FitsSlots e c.slots.result.now) c.in-Some.rest.now c.slots_front-behind.result) c.ending.ensures c.slots_front-behind.ensures))

@@ -1,18 +1,15 @@
 use Rattle.std.proofs.Common.{◌≡◌, ◌+◌, refl, sym, ◌∙◌, subst, arith, pos, Some}
 use Rattle.ht_word.specs.Words.{◌·◌, IsWordOf}
-use Rattle.ht_pair.specs.Elements.{ElementValue}
 use Rattle.ht_pair.specs.Steps.{Carries}
 use Rattle.ht_pair.proofs.BasisLaws.{some_at}
 use Rattle.ht_pair.proofs.CarriesLaws.{carries_word}
 use Rattle.ht_quasi.proofs.StepLaws.{listed_at}
-use Rattle.ht_types.specs.WordSteps.{HasStep, LeadsTo}
-use Rattle.ht_types.specs.declared.step.Step.TheVariants.{Splits}
-use Rattle.ht_flow.proofs.FlowingLaws.{typed_base}
 use Rattle.ht_share.specs.InnerWords.{IsInner}
 use Rattle.ht_share.proofs.FollowLaws.{no_further, not_so_far, over_pond}
 use Rattle.ht_share.proofs.ReturnLaws.{comes_further}
 use Rattle.ht_share.proofs.follow.further.Goals as goal
 use Rattle.ht_share.proofs.follow.further.Goals.{In_ok-word}
+use Rattle.ht_types.proofs.TypedLaws.{typed_base}
 
 -- the word where the walk has come leaves X
 inner_here : (c : In_ok-word) → IsInner c.args.t.now.element.shape c.args.t.now.element.rows c.args.t.now.quasi.basis.words c.in_ok-word.word
@@ -24,7 +21,7 @@ inner_here c =
     subst (IsInner t.element.shape t.element.rows X) is (record {
       word = carries_word t.element.shape t.element.rows (typed_base t c.keeps_kinds.ensures).pair (pos c.args.walk.now.steps) c.args.u.now (there.above · c.args.walk.now.rest) there.carries;
       under = some_at X there.above (there.above · c.args.walk.now.rest) (listed_at X c.args.walk.now.to there.above there.here) (record { rest = c.args.walk.now.rest; is = refl });
-      leaves = λ s. subst (λ (e : ElementValue). HasStep e.shape e.rows X (there.above · c.args.walk.now.rest) Splits) c.element.ensures (rw c.in_default.is at (c.in_ok-to.ensures there.above there.here)) s.to s.carries;
+      leaves = λ s. let splits = rw c.in_default.is at (c.in_ok-to.ensures there.above there.here) in splits s.to s.carries;
     })
 
 -- the steps so far carry the word there
@@ -40,18 +37,17 @@ next_of-requires-clause-word c = λ x here.
     let there = c.requires.there in
     let one : there.above ≡ x = (let k : Some there.above ≡ Some x = sym there.here ∙ here in cc) in
     let h = carries_word t.element.shape t.element.rows (typed_base t c.keeps_kinds.ensures).pair (pos c.args.walk.now.steps) c.args.u.now (there.above · c.args.walk.now.rest) there.carries in
-    subst (λ (e : ElementValue). IsWordOf e.shape (x · c.args.walk.now.rest)) (sym c.element.ensures) (subst (λ y. IsWordOf t.element.shape (y · c.args.walk.now.rest)) one h)
+    subst (λ y. IsWordOf t.element.shape (y · c.args.walk.now.rest)) one h
 
 pub returns-in-Leads : goal.returns-in-Leads
 returns-in-Leads c =
     let t = c.args.t.now in
-    let X = t.quasi.basis.words in
     let walk = c.args.walk.now in (
       omega arith,
       omega (arith, c.requires.more),
       comes_further (typed_base t c.keeps_kinds.ensures) c.args.u.now walk (record { steps = walk.steps + 1; to = c.in-Leads.to; rest = c.in-Leads.rest }) c.requires.there (record {
         steps = refl;
-        leads = λ x here. subst (λ (e : ElementValue). LeadsTo e.shape e.rows X (x · walk.rest) c.in-Leads.to c.in-Leads.rest) c.element.ensures (rw c.in-Leads.is at (c.in_ok-to.ensures x here));
+        leads = λ x here. rw c.in-Leads.is at (c.in_ok-to.ensures x here);
       }),
     )
 

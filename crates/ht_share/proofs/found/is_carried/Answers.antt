@@ -7,14 +7,14 @@ use Rattle.ht_pair.specs.Elements.{ElementValue}
 use Rattle.ht_pair.specs.Steps.{Carries}
 use Rattle.ht_pair.proofs.CarriesLaws.{carries_children, carries_extends}
 use Rattle.ht_types.proofs.ExitLaws.{one_letter}
-use Rattle.ht_flow.proofs.FlowingLaws.{typed_base}
+use Rattle.ht_types.proofs.TypedLaws.{typed_base}
 use Rattle.ht_share.proofs.found.is_carried.Goals as goal
 use Rattle.ht_share.proofs.found.is_carried.Goals.{In_ok-below}
 
 letter_here : (c : In_ok-below) → IsLetter c.args.t.now.element.shape c.loop-letter.letter
 letter_here c = (
   omega (arith, c.loop-letter.auto.letter),
-  omega (arith, c.loop-letter.auto.letter-end, c.loop-letter-test.true, ap (λ (s : Shape). s.n) (c.shape.ensures ∙ ap (λ (e : ElementValue). e.shape) c.element.ensures)),
+  omega (arith, c.loop-letter.auto.letter-end, c.loop-letter-test.true, ap (λ (s : Shape). s.n) (c.shape.ensures ∙ ap (λ (e : ElementValue). e.shape) c.element.ensures.element)),
 )
 
 pub is_child_carried-requires-clause-word : goal.is_child_carried-requires-clause-word
@@ -51,6 +51,6 @@ returns c = (
   (λ yes.
       let t = c.args.t.now in
       carries_children t.element.shape t.element.rows (typed_base t c.keeps_kinds.ensures).pair (pos c.args.steps) c.args.word.now c.args.to.now c.requires.word
-      (λ a letter. c.loop-letter.invariant a letter.0 (omega (arith, letter.1, c.loop-letter.auto.letter-end, c.loop-letter-test.false, ap (λ (s : Shape). s.n) (c.shape.ensures ∙ ap (λ (e : ElementValue). e.shape) c.element.ensures))))),
+      (λ a letter. c.loop-letter.invariant a letter.0 (omega (arith, letter.1, c.loop-letter.auto.letter-end, c.loop-letter-test.false, ap (λ (s : Shape). s.n) (c.shape.ensures ∙ ap (λ (e : ElementValue). e.shape) c.element.ensures.element))))),
   (λ carries. refl),
 )

@@ -8,12 +8,12 @@ use Rattle.ht_word.specs.declared.word.Word.{Word}
 use Rattle.ht_pair.specs.Elements.{ElementValue}
 use Rattle.ht_pair.specs.Steps.{Carries}
 use Rattle.ht_pair.proofs.CarriesLaws.{carries_word}
-use Rattle.ht_flow.proofs.FlowingLaws.{typed_base}
 use Rattle.ht_share.specs.InnerWords.{IsInner}
 use Rattle.ht_share.specs.PondLists.{HasPond}
 use Rattle.ht_share.proofs.FoundLaws.{known, not_known, not_yet, on_from_end}
 use Rattle.ht_share.proofs.found.is_child_carried.Goals as goal
 use Rattle.ht_share.proofs.found.is_child_carried.Goals.{After-index-found-words}
+use Rattle.ht_types.proofs.TypedLaws.{typed_base}
 
 -- what is known of the word that the search has found
 told : (c : After-index-found-words) → IsInner c.args.t.now.element.shape c.args.t.now.element.rows c.args.t.now.quasi.basis.words c.args.word.now × HasPond c.args.t.now.element.shape c.args.t.now.element.rows c.args.t.now.quasi.basis.words c.args.word.now c.index-found-words.result
@@ -45,7 +45,7 @@ carries-requires-2 c =
     let t = c.args.t.now in
     let k = told (goal.at.carries-requires-2 c).After-index-found-words in
     let has = subst (HasPond t.element.shape t.element.rows t.quasi.basis.words c.args.word.now) c.in-Some.is k.1 in
-    subst (λ (e : ElementValue). IsWordOf e.shape c.in-Some.pond.to) (sym c.element-2.ensures) (carries_word t.element.shape t.element.rows (typed_base t c.keeps_kinds.ensures).pair (pos c.in-Some.pond.steps) c.args.word.now c.in-Some.pond.to has.1.carries)
+    subst (λ (e : ElementValue). IsWordOf e.shape c.in-Some.pond.to) (sym c.element-2.ensures.element) (carries_word t.element.shape t.element.rows (typed_base t c.keeps_kinds.ensures).pair (pos c.in-Some.pond.steps) c.args.word.now c.in-Some.pond.to has.1.carries)
 
 pub returns : goal.returns
 returns c =
@@ -58,5 +58,5 @@ returns c =
     let few : left < 2 ^ 127 = (let small = c.requires.steps.1 in omega arith) in
     IfOk-weaker c.carries-2.result _ _
     (λ (yes : Bool) told.
-    let there = subst₂ (λ (e : ElementValue) i. IsTrue yes ↔ Carries e.shape e.rows i pond.to c.args.to.now) c.element-2.ensures (to_z_pos w128 left few) told in ((λ y. on.1 (there.0 y)), (λ carries. there.1 (on.0 carries))))
+    let there = subst₂ (λ (e : ElementValue) i. IsTrue yes ↔ Carries e.shape e.rows i pond.to c.args.to.now) c.element-2.ensures.element (to_z_pos w128 left few) told in ((λ y. on.1 (there.0 y)), (λ carries. there.1 (on.0 carries))))
     c.carries-2.ensures

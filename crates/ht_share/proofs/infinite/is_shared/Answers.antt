@@ -11,7 +11,7 @@ use Rattle.ht_ops.proofs.PowerChains.{below_zero}
 use Rattle.ht_ops.proofs.Walking.{below_none, from_none}
 use Rattle.ht_types.specs.Flows.{IsUnderInfinite}
 use Rattle.ht_types.specs.TypedElements.{TypedValue}
-use Rattle.ht_flow.proofs.FlowingLaws.{typed_base}
+use Rattle.ht_types.proofs.TypedLaws.{typed_base}
 use Rattle.ht_share.proofs.FollowLaws.{agreed}
 use Rattle.ht_share.proofs.infinite.is_shared.Goals as goal
 

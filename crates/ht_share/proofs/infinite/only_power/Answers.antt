@@ -3,10 +3,10 @@ use Rattle.std.specs.Str.{bytes_eq}
 use Rattle.std.proofs.lemmas.Slice.Eq.{bytes_eq-Decides}
 use Rattle.ht_word.specs.Words.{◌·◌}
 use Rattle.ht_pair.specs.Orbits.{ShareOrbit}
-use Rattle.ht_flow.proofs.FlowingLaws.{typed_base}
 use Rattle.ht_share.proofs.InfiniteShares.{addresses_along, addresses_behind, few_between}
 use Rattle.ht_share.proofs.infinite.only_power.Goals.{then-first-second-via-then-first-second, then-first-second-via-else-first-second+then-ne}
 use Rattle.ht_share.proofs.infinite.only_power.Goals as goal
+use Rattle.ht_types.proofs.TypedLaws.{typed_base}
 
 pub returns-then-first-second : goal.returns-then-first-second
 returns-then-first-second c = λ j carries.

@@ -3,7 +3,7 @@ use Rattle.std.specs.Int.{w128}
 use Rattle.std.proofs.lemmas.Int.{fits_signed_from_abs, to_z-of_z}
 use Rattle.ht_pair.specs.Orbits.{ShareOrbit}
 use Rattle.ht_types.specs.Shares.{IsShare}
-use Rattle.ht_flow.proofs.FlowingLaws.{typed_base}
+use Rattle.ht_types.proofs.TypedLaws.{typed_base}
 use Rattle.ht_share.proofs.InfiniteShares.{share_tested, share_refuted}
 use Rattle.ht_share.proofs.infinite.share_infinite.Goals as goal
 

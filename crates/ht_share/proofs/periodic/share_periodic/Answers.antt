@@ -4,7 +4,7 @@ use Rattle.std.proofs.lemmas.Int.{to_z_pos}
 use Rattle.ht_pair.specs.Elements.{ElementValue}
 use Rattle.ht_pair.specs.Actions.{Moves}
 use Rattle.ht_types.specs.Shares.{IsShare}
-use Rattle.ht_share.proofs.PeriodicShares.{IsOnRound, round_moves, round_on, round_meets, round_ends}
+use Rattle.ht_share.proofs.PeriodicShares.{IsBeforeOnCycle, round_moves, round_on, round_meets, round_ends}
 use Rattle.ht_share.proofs.periodic.share_periodic.Goals as goal
 
 pub returns-then-same : goal.returns-then-same
@@ -20,7 +20,7 @@ unreachable-requires c =
     let t = c.args.t.now in
     let typed = c.keeps_kinds.ensures in
     let m = round_moves t.element.shape t.element.rows typed.canonical.canonical t.quasi.basis.words typed.quasinormal.least.semi_normal c.args.u.now c.args.v.now c.loop-steps.word c.args.m c.loop-steps.steps c.requires.word c.requires.cycle c.loop-steps.invariant in
-    (rw c.in_default.is at c.in_ok-next.ensures) m.0 (subst (λ (e : ElementValue). Moves e.rows c.loop-steps.word m.0) (sym c.element.ensures) m.1)
+    (rw c.in_default.is at c.in_ok-next.ensures) m.0 (subst (λ (e : ElementValue). Moves e.rows c.loop-steps.word m.0) (sym c.element.ensures.element) m.1)
 
 pub loop-steps-preserved : goal.loop-steps-preserved
 loop-steps-preserved c =
@@ -28,11 +28,11 @@ loop-steps-preserved c =
     rw (add-one)
     (round_on t.element.shape t.element.rows c.keeps_kinds.ensures.canonical.canonical c.args.u.now c.args.v.now c.loop-steps.word c.in-Some.next c.loop-steps.steps c.loop-steps.invariant
     (λ e. let no : false ≡ true = sym c.if-same.false ∙ c.same.ensures.1 e in cc)
-    (subst (λ (e : ElementValue). Moves e.rows c.loop-steps.word c.in-Some.next) c.element.ensures (rw c.in-Some.is at c.in_ok-next.ensures)))
+    (subst (λ (e : ElementValue). Moves e.rows c.loop-steps.word c.in-Some.next) c.element.ensures.element (rw c.in-Some.is at c.in_ok-next.ensures)))
 
 pub returns : goal.returns
 returns c =
     let t = c.args.t.now in
     let whole : c.loop-steps.steps ≡ c.args.m = omega (arith, c.loop-steps-test.false, c.loop-steps.auto.steps-end) in
     round_ends t.element.shape t.element.rows c.keeps_kinds.ensures.canonical.pair t.quasi.basis.words c.args.u.now c.args.v.now c.loop-steps.word c.args.m c.requires.word c.requires.cycle
-    (subst (IsOnRound t.element.shape t.element.rows c.args.u.now c.args.v.now c.loop-steps.word) whole c.loop-steps.invariant)
+    (subst (IsBeforeOnCycle t.element.shape t.element.rows c.args.u.now c.args.v.now c.loop-steps.word) whole c.loop-steps.invariant)

@@ -2,7 +2,7 @@ use Rattle.std.proofs.Common.{◌≡◌, ◌-◌, ◌++◌, ℕ, List, [], ◌�
 use Rattle.std.proofs.lemmas.List.{append-nil}
 use Rattle.ht_types.specs.declared.sharing.Pond.{Pond}
 use Rattle.ht_share.specs.PondLists.{AreFound}
-use Rattle.ht_share.proofs.ListedLaws.{AreListed, listed_none}
+use Rattle.ht_share.proofs.ListedLaws.{ArePondsOf, listed_none}
 use Rattle.ht_share.proofs.ListingLaws.{IsListing, listing_next, listing_done}
 use Rattle.ht_share.proofs.pond.ponds.Goals as goal
 use Rattle.ht_share.proofs.pond.ponds.Goals.{In-Some}
@@ -18,7 +18,7 @@ loop-last-init c =
       all = c.in_ok-inner.ensures;
       done = 0;
       within = omega arith;
-      listed = subst (AreListed t.element.shape t.element.rows t.quasi.basis.words []) (sym c.new-ponds.ensures) (listed_none t.element.shape t.element.rows t.quasi.basis.words);
+      listed = subst (ArePondsOf t.element.shape t.element.rows t.quasi.basis.words []) (sym c.new-ponds.ensures) (listed_none t.element.shape t.element.rows t.quasi.basis.words);
       left = subst (λ W. AreFound t.element.shape t.element.rows t.quasi.basis.words W c.in_ok-found.found.items) c.as_slice.ensures c.in_ok-found.ensures;
     }
 

@@ -5,7 +5,7 @@ use Rattle.ht_share.proofs.search.is_settled.Goals as goal
 use Rattle.ht_share.proofs.search.is_settled.Goals.{After-kind}
 
 by : (c : After-kind) → IsAheadKind c.kind.result.now ↔ IsSettled c.args.t.now.element.shape c.args.t.now.element.rows c.args.t.now.quasi.basis.words c.args.count c.args.walk.now
-by c = settled_by c.args.t.now c.keeps_kinds.ensures c.args.count c.args.walk.now c.kind.result.now c.requires c.kind.ensures (omega (arith, c.len.ensures, c.if-len-count.false))
+by c = settled_by c.args.t.now c.keeps_kinds.ensures c.args.count c.args.walk.now c.kind.result.now c.requires c.kind.ensures.kind (omega (arith, c.len.ensures, c.if-len-count.false))
 
 pub returns-then-len-count : goal.returns-then-len-count
 returns-then-len-count c = ((λ no. absurd (true≢false (sym no))), (λ s. absurd (omega (arith, s.long, c.len.ensures, c.if-len-count.true))))

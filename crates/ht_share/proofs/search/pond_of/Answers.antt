@@ -4,9 +4,9 @@ use Rattle.ht_word.specs.Words.{◌·◌}
 use Rattle.ht_word.proofs.WordLaws.{word_after}
 use Rattle.ht_share.specs.PondWalks.{IsSettled}
 use Rattle.ht_share.proofs.ReturnLaws.{exit_stays, comes_first, goes_on, comes_further, none_further, unsettled, settles}
-use Rattle.ht_flow.proofs.FlowingLaws.{typed_base}
 use Rattle.ht_share.proofs.SearchLaws.{inner_infinite}
 use Rattle.ht_share.proofs.search.pond_of.Goals as goal
+use Rattle.ht_types.proofs.TypedLaws.{typed_base}
 
 pub exit_of-requires-clause-infinite : goal.exit_of-requires-clause-infinite
 exit_of-requires-clause-infinite c = inner_infinite (typed_base c.args.t.now c.keeps_kinds.ensures) c.args.word.now c.requires.inner

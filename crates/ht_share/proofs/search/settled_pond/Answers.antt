@@ -9,11 +9,11 @@ use Rattle.ht_pair.specs.Steps.{Carries}
 use Rattle.ht_pair.proofs.BasisLaws.{some_at}
 use Rattle.ht_quasi.specs.declared.quasi.Quasi.{Quasi}
 use Rattle.ht_quasi.proofs.StepLaws.{listed_at}
-use Rattle.ht_flow.proofs.FlowingLaws.{typed_base}
 use Rattle.ht_share.proofs.ReturnLaws.{not_ended, ended_at, none_further, pond_given, settled}
 use Rattle.ht_share.proofs.SearchLaws.{found_is}
 use Rattle.ht_share.proofs.search.settled_pond.Goals as goal
 use Rattle.ht_share.proofs.search.settled_pond.Goals.{In-Some, In_ok-to}
+use Rattle.ht_types.proofs.TypedLaws.{typed_base}
 
 -- what is before the letters
 whole : (c : In-Some) → c.args.walk.now.rest ≡ c.in-Some.front.now ++ c.args.letters.now
@@ -24,7 +24,7 @@ whole c =
 -- the word to which the walk leads the word, if it is under X then
 to_is : (c : In_ok-to) → c.in_ok-to.to ≡ c.requires.there.above · c.in-Some.front.now
 to_is c =
-    found_is c.words.result.now c.args.t.now.quasi.basis.words (c.words.ensures.words ∙ ap (λ (q : Quasi). q.basis.words) c.quasi.ensures) c.args.walk.now.to c.requires.there.above c.at.result.now c.in_ok-to.to c.in-Some.front.now
+    found_is c.words.result.now c.args.t.now.quasi.basis.words (c.words.ensures.words ∙ ap (λ (q : Quasi). q.basis.words) c.quasi.ensures.quasi) c.args.walk.now.to c.requires.there.above c.at.result.now c.in_ok-to.to c.in-Some.front.now
     c.requires.there.here c.at.ensures c.in_ok-to.ensures
 
 to_under : (c : In_ok-to) → IsUnderSome c.in_ok-to.to c.args.t.now.quasi.basis.words
@@ -47,7 +47,7 @@ returns-in_default c =
 
 pub at-requires : goal.at-requires
 at-requires c =
-    subst (λ (W : List Word). c.args.walk.now.to < length W) (sym (c.words.ensures.words ∙ ap (λ (q : Quasi). q.basis.words) c.quasi.ensures))
+    subst (λ (W : List Word). c.args.walk.now.to < length W) (sym (c.words.ensures.words ∙ ap (λ (q : Quasi). q.basis.words) c.quasi.ensures.quasi))
     (slice_get_within c.args.t.now.quasi.basis.words c.args.walk.now.to c.requires.there.above c.requires.there.here)
 
 pub is_carried-requires-clause-under : goal.is_carried-requires-clause-under

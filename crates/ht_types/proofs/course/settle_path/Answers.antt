@@ -1,5 +1,5 @@
 use Rattle.std.proofs.Common.{◌≡◌, ◌<◌, ℕ, List, length, get_or, take, refl, sym, ap, ◌∙◌, subst, arith}
-use Rattle.ht_types.specs.CourseStates.{IsRoundPath, IsSettled}
+use Rattle.ht_types.specs.CourseStates.{IsRoundPath, IsPathSettled}
 use Rattle.ht_types.proofs.RoundLaws.{walked_round}
 use Rattle.ht_types.proofs.course.settle_path.Goals as goal
 
@@ -18,5 +18,5 @@ pub unwind-requires-2 : goal.unwind-requires-2
 unwind-requires-2 c =
     let round = c.in_ok-settle_round.ensures in
     let is : take c.args.first c.deref.result.now ≡ c.truncate.new.self.items = ap (λ (p : List ℕ). take c.args.first p) c.deref.ensures.value ∙ sym c.truncate.ensures.items in
-    let s : IsSettled c.args.steps.now c.truncate.new.self.items c.args.states.now c.settle_round.new.states = subst (λ (p : List ℕ). IsSettled c.args.steps.now p c.args.states.now c.settle_round.new.states) is round in
+    let s : IsPathSettled c.args.steps.now c.truncate.new.self.items c.args.states.now c.settle_round.new.states = subst (λ (p : List ℕ). IsPathSettled c.args.steps.now p c.args.states.now c.settle_round.new.states) is round in
     record { known = s.known; ends = s.ends; told = λ x h. h }

@@ -1,13 +1,13 @@
 use Rattle.std.proofs.Common.{◌++◌, [], ◌∷◌, ℕ, List, sym, subst, arith}
 use Rattle.ht_types.specs.declared.course.State.{State}
-use Rattle.ht_types.specs.CourseStates.{IsNextKnown, IsSettled}
+use Rattle.ht_types.specs.CourseStates.{IsNextKnown, IsPathSettled}
 use Rattle.ht_types.proofs.StateLaws.{settled_last, last_next, last_once, last_inside}
 use Rattle.ht_types.proofs.course.unwind.Goals as goal
 use Rattle.ht_types.proofs.course.unwind.Goals.{In-Some}
 
 -- what is left to settle before the last word is
-left : (c : In-Some) → IsSettled c.args.steps.now (c.pop.new.self.items ++ c.in-Some.place ∷ []) c.args.states.now c.loop-place.states
-left c = subst (λ (path : List ℕ). IsSettled c.args.steps.now path c.args.states.now c.loop-place.states) c.in-Some.ensures.items c.loop-place.invariant
+left : (c : In-Some) → IsPathSettled c.args.steps.now (c.pop.new.self.items ++ c.in-Some.place ∷ []) c.args.states.now c.loop-place.states
+left c = subst (λ (path : List ℕ). IsPathSettled c.args.steps.now path c.args.states.now c.loop-place.states) c.in-Some.ensures.items c.loop-place.invariant
 
 next : (c : In-Some) → IsNextKnown c.args.steps.now c.loop-place.states c.in-Some.place
 next c = last_next c.args.steps.now c.pop.new.self.items c.args.states.now c.loop-place.states c.in-Some.place (left c)
@@ -33,5 +33,5 @@ note-requires c =
 pub loop-place-preserved : goal.loop-place-preserved
 loop-place-preserved c =
     let at = (goal.at.loop-place-preserved c).In-Some in
-    subst (λ (s : List State). IsSettled c.args.steps.now c.pop.new.self.items c.args.states.now s) (sym c.note.ensures)
+    subst (λ (s : List State). IsPathSettled c.args.steps.now c.pop.new.self.items c.args.states.now s) (sym c.note.ensures)
     (settled_last c.args.steps.now c.pop.new.self.items c.args.states.now c.loop-place.states c.in-Some.place c.in_ok-course.course (left at) c.in_ok-course.ensures (next at))

@@ -1,47 +1,31 @@
-use Rattle.std.proofs.Common.{◌≤◌, inl, inr, List, refl, subst, arith, rules}
+use Rattle.std.proofs.Common.{Err, ap}
 use Rattle.std.proofs.lemmas.List.Sorted.{IsPermutation-sym}
-use Rattle.ht_word.specs.declared.shape.Shape.{Shape}
-use Rattle.ht_pair.specs.declared.row.Row.{Row}
-use Rattle.ht_pair.specs.Sides.{IsSortedPair}
-use Rattle.ht_pair.specs.Pairs.{IsPair, longest_of}
+use Rattle.ht_pair.specs.declared.fault.OpFault.{OpFault}
 use Rattle.ht_pair.specs.Merges.{IsReducedOf}
 use Rattle.ht_pair.proofs.Sorting.{pair_permuted}
-use Rattle.ht_pair.proofs.Canonical.{reduced_permuted}
+use Rattle.ht_pair.proofs.Canonical.{canonical_permuted, reduced_permuted, large_permuted}
 use Rattle.ht_pair.proofs.element.Element.of_rows.Goals as goal
 
--- rows that are a pair in order are a pair
-is_pair : (shape : Shape) (rows sorted : List Row) → IsSortedPair shape rows sorted → IsPair shape rows
-is_pair shape rows sorted h = pair_permuted shape sorted rows (IsPermutation-sym rows sorted h.permuted) h.pair
+pub returns-in-Ok-clause-pair : goal.returns-in-Ok-clause-pair
+returns-in-Ok-clause-pair c = pair_permuted c.args.shape c.in_ok-sorted.sorted c.args.rows (IsPermutation-sym c.args.rows c.in_ok-sorted.sorted c.in_ok-sorted.ensures.permuted) c.in_ok-sorted.ensures.pair
 
--- and what they reduce to in order is what they reduce to
-is_reduced : (shape : Shape) (rows sorted q : List Row) → IsSortedPair shape rows sorted → IsReducedOf shape sorted q → IsReducedOf shape rows q
-is_reduced shape rows sorted q h reduced = reduced_permuted shape rows sorted q h.permuted reduced
+pub returns-in-Ok-clause-canonical : goal.returns-in-Ok-clause-canonical
+returns-in-Ok-clause-canonical c =
+    (c.in-Ok.ensures.canonical.0, canonical_permuted c.args.shape c.args.rows c.in_ok-sorted.sorted c.in-Ok.element.rows c.in_ok-sorted.ensures.permuted c.in-Ok.ensures.canonical.1)
 
-pub invariant_of-result : goal.invariant_of-result
-invariant_of-result c = record { canonical = (is_reduced c.args.shape c.args.rows c.in_ok-sorted.sorted c.in_ok-rows.rows c.in_ok-sorted.ensures c.in_ok-rows.ensures).canonical.form; few_rows = omega arith; short_words = subst (λ (t : List Row). longest_of t ≤ 1024) c.as_slice.ensures (omega (arith, c.longest_in-letters.ensures)) }
+pub returns-in-Ok-clause-fewer : goal.returns-in-Ok-clause-fewer
+returns-in-Ok-clause-fewer c =
+    let made : IsReducedOf c.args.shape c.in_ok-sorted.sorted c.in-Ok.element.rows = record { canonical = c.in-Ok.ensures.canonical.1; fewer = c.in-Ok.ensures.fewer; shorter = c.in-Ok.ensures.shorter } in
+    (reduced_permuted c.args.shape c.args.rows c.in_ok-sorted.sorted c.in-Ok.element.rows c.in_ok-sorted.ensures.permuted made).fewer
 
-pub returns-clause-pair : goal.returns-clause-pair
-returns-clause-pair c = is_pair c.args.shape c.args.rows c.in_ok-sorted.sorted c.in_ok-sorted.ensures
+pub returns-in-Ok-clause-shorter : goal.returns-in-Ok-clause-shorter
+returns-in-Ok-clause-shorter c =
+    let made : IsReducedOf c.args.shape c.in_ok-sorted.sorted c.in-Ok.element.rows = record { canonical = c.in-Ok.ensures.canonical.1; fewer = c.in-Ok.ensures.fewer; shorter = c.in-Ok.ensures.shorter } in
+    (reduced_permuted c.args.shape c.args.rows c.in_ok-sorted.sorted c.in-Ok.element.rows c.in_ok-sorted.ensures.permuted made).shorter
 
-pub returns-clause-canonical : goal.returns-clause-canonical
-returns-clause-canonical c = (refl, (is_reduced c.args.shape c.args.rows c.in_ok-sorted.sorted c.in_ok-rows.rows c.in_ok-sorted.ensures c.in_ok-rows.ensures).canonical)
-
-pub returns-clause-fewer : goal.returns-clause-fewer
-returns-clause-fewer c = (is_reduced c.args.shape c.args.rows c.in_ok-sorted.sorted c.in_ok-rows.rows c.in_ok-sorted.ensures c.in_ok-rows.ensures).fewer
-
-pub returns-clause-shorter : goal.returns-clause-shorter
-returns-clause-shorter c = (is_reduced c.args.shape c.args.rows c.in_ok-sorted.sorted c.in_ok-rows.rows c.in_ok-sorted.ensures c.in_ok-rows.ensures).shorter
-
-pub returns-then-len-gt-MOST_ROWS-clause-fault : goal.returns-then-len-gt-MOST_ROWS-clause-fault
-returns-then-len-gt-MOST_ROWS-clause-fault c = (
-  is_pair c.args.shape c.args.rows c.in_ok-sorted.sorted c.in_ok-sorted.ensures,
-  (
-    record {
-      canonical = c.in_ok-rows.rows;
-      is_canonical = (is_reduced c.args.shape c.args.rows c.in_ok-sorted.sorted c.in_ok-rows.rows c.in_ok-sorted.ensures c.in_ok-rows.ensures).canonical;
-      rows_is = search rules;
-      letters_is = search rules;
-    },
-    elim c.then-len-gt-MOST_ROWS.either [ inl more ↦ inl (omega (arith, more)) | inr longer ↦ inr longer.1 ],
-  ),
+pub returns-in-Err-Large-clause-fault : goal.returns-in-Err-Large-clause-fault
+returns-in-Err-Large-clause-fault c = (
+  pair_permuted c.args.shape c.in_ok-sorted.sorted c.args.rows (IsPermutation-sym c.args.rows c.in_ok-sorted.sorted c.in_ok-sorted.ensures.permuted) c.in_ok-sorted.ensures.pair,
+  large_permuted c.args.shape c.args.rows c.in_ok-sorted.sorted c.in-Err-Large.rows c.in-Err-Large.letters c.in_ok-sorted.ensures.permuted
+      (c.in-Err-Large.ensures.large c.in-Err-Large.rows c.in-Err-Large.letters (ap (λ (f : OpFault). Err f) c.in-Err-Large.field-0-is)),
 )

@@ -1,6 +1,6 @@
-use Rattle.ht_flow.proofs.FlowingLaws.{typed_base}
 use Rattle.ht_share.proofs.InfiniteShares.{parts_apart}
 use Rattle.ht_share.proofs.sharer.SharerSharing.share.Goals as goal
+use Rattle.ht_types.proofs.TypedLaws.{typed_base}
 
 pub returns-in-Some-period_over : goal.returns-in-Some-period_over
 returns-in-Some-period_over c =

@@ -1,6 +1,6 @@
 -- Atoms are the least pieces of the infinite part that are kept; two with a common place are one.
-use Rattle.std.proofs.Common.{◌≡◌, ℕ, zero, suc, ◌<◌, ◌⊎◌, inl, inr, List, refl, sym, ap, ◌∙◌, subst, arith, pos, ◌↔◌, Contains, ◌+◌, subst₂, Some, slice_get}
-use Rattle.std.proofs.lemmas.Option.{same_Some, slice_get_within, slice_get-get_or, get_or_from_slice_get}
+use Rattle.std.proofs.Common.{◌≡◌, ℕ, zero, suc, ◌<◌, ◌⊎◌, inl, inr, List, refl, sym, ◌∙◌, subst, arith, pos, ◌↔◌, Contains, ◌+◌, subst₂, Some, slice_get}
+use Rattle.std.proofs.lemmas.Option.{same_Some, slice_get_within, get_or_from_slice_get}
 use Rattle.ht_word.specs.Words.{IsUnder}
 use Rattle.ht_word.specs.declared.shape.Shape.{Shape}
 use Rattle.ht_word.specs.declared.word.Word.{Word}
@@ -12,20 +12,20 @@ use Rattle.ht_pair.specs.Kinds.{IsCycleWord}
 use Rattle.ht_pair.specs.Steps.{Carries}
 use Rattle.ht_pair.specs.declared.row.Row.{Row}
 use Rattle.ht_pair.proofs.BasisLaws.{prefix_free_place}
-use Rattle.ht_quasi.proofs.StepLaws.{listed_at}
+use Rattle.ht_quasi.proofs.StepLaws.{listed_at, at_place}
 
 -- a link more in front of a chain
-linked_front : (shape : Shape) (p : List Row) (X : List Word) (k : ℕ) (x y w : Word) → IsInfiniteWord shape p X y → (AreJoined shape p x y ⊎ AreJoined shape p y x) → AreLinked shape p X k y w → AreLinked shape p X (suc k) x w
+pub linked_front : (shape : Shape) (p : List Row) (X : List Word) (k : ℕ) (x y w : Word) → IsInfiniteWord shape p X y → (AreJoined shape p x y ⊎ AreJoined shape p y x) → AreLinked shape p X k y w → AreLinked shape p X (suc k) x w
 linked_front shape p X zero x y w infinite link chain = (x, refl, subst (IsInfiniteWord shape p X) chain infinite, subst (λ t. AreJoined shape p x t ⊎ AreJoined shape p t x) chain link)
 linked_front shape p X (suc k) x y w infinite link chain = (chain.0, linked_front shape p X k x y chain.0 infinite link chain.1, chain.2, chain.3)
 
 -- a chain from a word of the infinite part ends with one
-last_infinite : (shape : Shape) (p : List Row) (X : List Word) (k : ℕ) (x y : Word) → IsInfiniteWord shape p X x → AreLinked shape p X k x y → IsInfiniteWord shape p X y
+pub last_infinite : (shape : Shape) (p : List Row) (X : List Word) (k : ℕ) (x y : Word) → IsInfiniteWord shape p X x → AreLinked shape p X k x y → IsInfiniteWord shape p X y
 last_infinite shape p X zero x y infinite chain = subst (IsInfiniteWord shape p X) chain infinite
 last_infinite shape p X (suc k) x y infinite chain = chain.2
 
 -- a chain taken backwards
-linked_back : (shape : Shape) (p : List Row) (X : List Word) (k : ℕ) (x y : Word) → IsInfiniteWord shape p X x → AreLinked shape p X k x y → AreLinked shape p X k y x
+pub linked_back : (shape : Shape) (p : List Row) (X : List Word) (k : ℕ) (x y : Word) → IsInfiniteWord shape p X x → AreLinked shape p X k x y → AreLinked shape p X k y x
 linked_back shape p X zero x y infinite chain = sym chain
 linked_back shape p X (suc k) x y infinite chain = linked_front shape p X k y chain.0 x (last_infinite shape p X k x chain.0 infinite chain.1) (turn chain.3) (linked_back shape p X k x chain.0 infinite chain.1)
   where
@@ -33,7 +33,7 @@ linked_back shape p X (suc k) x y infinite chain = linked_front shape p X k y ch
     turn s = elim s [ inl a ↦ inr a | inr b ↦ inl b ]
 
 -- a chain behind a chain
-linked_then : (shape : Shape) (p : List Row) (X : List Word) (j k : ℕ) (x y w : Word) → AreLinked shape p X j x y → AreLinked shape p X k y w → AreLinked shape p X (j + k) x w
+pub linked_then : (shape : Shape) (p : List Row) (X : List Word) (j k : ℕ) (x y w : Word) → AreLinked shape p X j x y → AreLinked shape p X k y w → AreLinked shape p X (j + k) x w
 linked_then shape p X j zero x y w first second = subst₂ (λ i t. AreLinked shape p X i x t) (plain j) second first
   where
     plain : (j : ℕ) → j ≡ j + 0
@@ -42,10 +42,6 @@ linked_then shape p X j (suc k) x y w first second = subst (λ i. AreLinked shap
   where
     more : (j k : ℕ) → suc (j + k) ≡ j + suc k
     more j k = omega arith
-
--- a word of a list stands at its place
-at_place : (X : List Word) (x : Word) → (c : Contains X x) → slice_get X c.0 ≡ Some x
-at_place X x c = slice_get-get_or X c.0 x c.1 ∙ ap (λ y. Some y) c.2
 
 -- what an atom reaches from its start, another one reaches that has a place with it
 same_places : (shape : Shape) (p : List Row) (X : List Word) (A B : List ℕ) (k : ℕ) → (a : IsAtom shape p X A) → (b : IsAtom shape p X B) → Contains A k → Contains B k → (i : ℕ) → Contains A i → Contains B i
@@ -89,7 +85,7 @@ atom_kept shape p X places i j x y u v a x_is y_is other_x other_y under_x carri
     (one_link shape p X places i j x y a x_is y_is other_y (inl joined), one_link shape p X places j i y x a y_is x_is other_x (inr joined))
 
 -- a list of places that has both or neither of such two words
-AreKept : Shape → List Row → List Word → List ℕ → Type 0
+pub AreKept : Shape → List Row → List Word → List ℕ → Type 0
 AreKept shape p X places = (i j : ℕ) (x y u v : Word) → slice_get X i ≡ Some x → slice_get X j ≡ Some y → ¬ IsCycleWord shape p x → ¬ IsCycleWord shape p y → IsUnder u x → Carries shape p (pos 1) u v → IsUnder v y → Contains places i ↔ Contains places j
 
 -- has all that chains lead to from one of its words

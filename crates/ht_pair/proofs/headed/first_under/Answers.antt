@@ -1,7 +1,7 @@
 use Rattle.std.proofs.Common.{rules}
 use Rattle.std.proofs.lemmas.Fn.{always_returns_same}
-use Rattle.ht_ops.proofs.RunLaws.{is_before, parted_before}
-use Rattle.ht_ops.proofs.run.count_before.Goals as goal
+use Rattle.ht_pair.proofs.RowSearch.{is_before, parted_before}
+use Rattle.ht_pair.proofs.headed.first_under.Goals as goal
 
 pub returns-clause-point : goal.returns-clause-point
 returns-clause-point c =
