@@ -2,6 +2,7 @@
 //! and what they give then.
 //!
 //! - `texts`: the texts that are compared
+//! - `atoms`: atoms, and links of their ends
 //! - `bases`: expansions of bases, and which words are a basis
 //! - `files`: element files
 //! - `images`: images under many steps, and behind letters
@@ -9,6 +10,8 @@
 //! - `walks`: walks and exits behind
 #![tactic(auto)]
 
+#[cfg(test)]
+mod atoms;
 #[cfg(test)]
 mod bases;
 #[cfg(test)]

@@ -1,0 +1,4 @@
+pub mod JoinLaws
+pub mod TreeLaws
+pub mod PieceLaws
+pub mod AtomListLaws

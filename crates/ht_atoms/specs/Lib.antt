@@ -1,0 +1,4 @@
+pub mod AtomLists
+pub mod Joins
+pub mod Trees
+pub mod Pieces

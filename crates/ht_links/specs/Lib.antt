@@ -1,0 +1,2 @@
+pub use Rattle.ht_types.specs.Links
+pub mod Listing
