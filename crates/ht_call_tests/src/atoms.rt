@@ -1,16 +1,15 @@
 //! Atoms, and links of their ends.
-use crate::texts::{add_word, element_of};
+use crate::texts::add_word;
+use crate::told::{Asked, told_of};
 use ht_atoms::atoms;
 use ht_links::links;
-use ht_quasi::quasinormal;
-use ht_types::{Places, Reach, Typed, types};
-use ht_word::Shape;
+use ht_types::{Places, Reach, Typed};
 use std::alloc::Global;
 use std::test::Fail;
 
 // Elements of G(n,r) and the places of the words of each atom. `checks/atoms.py` makes these anew by the
 // definition. In the first one words are joined beside a pond and over it, and root 6 is apart.
-const ATOMS: [(u32, u32, &str, &str); 10] = [
+const ATOMS: [(u32, u32, &str, &str); 12] = [
     (
         2,
         6,
@@ -57,6 +56,18 @@ const ATOMS: [(u32, u32, &str, &str); 10] = [
     (3, 1, "x1.1>x1.3;x1.2>x1.1;x1.3>x1.2", ""),
     (
         2,
+        1,
+        "x1.1>x1.112;x1.21>x1.111;x1.221>x1.12;x1.222>x1.2",
+        "0 1;",
+    ),
+    (
+        2,
+        1,
+        "x1.1>x1.121;x1.21>x1.122;x1.221>x1.11;x1.222>x1.2",
+        "0 1;",
+    ),
+    (
+        2,
         2,
         "x1.1>x2.222;x1.2>x1;x2.11>x2.212;x2.12>x2.1;x2.21>x2.221;x2.22>x2.211",
         "0 1 2 3;",
@@ -72,7 +83,7 @@ fn add_places(alloc: Global, places: &Places, text: &mut String) -> Result<(), F
     Ok(())
 }
 
-fn told_atoms(alloc: Global, typed: &Typed) -> Result<String, Fail> {
+pub(crate) fn told_atoms(alloc: Global, typed: &Typed) -> Result<String, Fail> {
     let mut text = String::new(alloc);
     for places in atoms(alloc, typed)?.as_slice() {
         add_places(alloc, places, &mut text)?;
@@ -80,16 +91,10 @@ fn told_atoms(alloc: Global, typed: &Typed) -> Result<String, Fail> {
     Ok(text)
 }
 
-fn atoms_of(alloc: Global, n: u32, r: u32, rows: &str) -> Result<String, Fail> {
-    let element = element_of(alloc, Shape::new(n, r)?, rows)?;
-    let typed = types(alloc, &element, quasinormal(alloc, &element, 9)?)?;
-    told_atoms(alloc, &typed)
-}
-
 #[test]
 fn atoms_are_the_finest_pieces(rt: HostRuntime) -> Result<(), Fail> {
     for (n, r, rows, wanted) in ATOMS {
-        let text = atoms_of(rt.alloc(), n, r, rows)?;
+        let text = told_of(&rt, rt.alloc(), n, r, rows, Asked::Atoms)?;
         assert_eq!(rt; text.as_str(), wanted);
     }
     Ok(())
@@ -102,7 +107,7 @@ fn add_reach(alloc: Global, reach: &Reach, text: &mut String) -> Result<(), Fail
     Ok(())
 }
 
-fn told_links(alloc: Global, typed: &Typed) -> Result<String, Fail> {
+pub(crate) fn told_links(alloc: Global, typed: &Typed) -> Result<String, Fail> {
     let mut text = String::new(alloc);
     for link in links(alloc, typed)?.as_slice() {
         add_word(alloc, &link.cone, &mut text)?;
@@ -112,20 +117,19 @@ fn told_links(alloc: Global, typed: &Typed) -> Result<String, Fail> {
     Ok(text)
 }
 
-fn links_of(alloc: Global) -> Result<String, Fail> {
-    let element = element_of(alloc, Shape::new(2, 2)?, "x1.1>x1;x1.2>x2.2;x2>x2.1")?;
-    let typed = types(alloc, &element, quasinormal(alloc, &element, 9)?)?;
-    told_links(alloc, &typed)
-}
-
 // From the repeller x1 to the attractor x2: a link for each row, and two for each of these words.
 #[test]
 fn links_join_the_ends_of_an_atom(rt: HostRuntime) -> Result<(), Fail> {
-    let text = links_of(rt.alloc())?;
-    let rows = "x1.12 2 1[2];0 0[1, 2];x1.2 1 1[2];0 0[2];x2.2 0 1[2];1 0[2];";
-    let words =
-        "x1.2 1 1[2];0 0[2];x1.2 1 1[2];1 0[1, 2];x2.2 0 1[2];1 0[2];x2.2 1 1[1, 2];1 0[2];";
-    assert!(rt; text.as_str().starts_with(rows));
-    assert_eq!(rt; text.as_str()[rows.len()..], *words);
+    let text = told_of(
+        &rt,
+        rt.alloc(),
+        2,
+        2,
+        "x1.1>x1;x1.2>x2.2;x2>x2.1",
+        Asked::Links,
+    )?;
+    let wanted =
+        "x1.12 2 1[2];0 0[1, 2];x1.2 1 1[2];0 0[2];x2.2 0 1[2];1 0[2];x1.2 1 1[2];0 0[2];x1.2 1 1[2];1 0[1, 2];x2.2 0 1[2];1 0[2];x2.2 1 1[1, 2];1 0[2];";
+    assert_eq!(rt; text.as_str(), wanted);
     Ok(())
 }

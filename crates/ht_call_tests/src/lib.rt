@@ -7,6 +7,7 @@
 //! - `files`: element files
 //! - `images`: images under many steps, and behind letters
 //! - `rows`: places in the rows of an element
+//! - `told`: what is told of an element with its kinds
 //! - `walks`: walks and exits behind
 #![tactic(auto)]
 
@@ -22,5 +23,7 @@ mod images;
 mod rows;
 #[cfg(test)]
 mod texts;
+#[cfg(test)]
+mod told;
 #[cfg(test)]
 mod walks;

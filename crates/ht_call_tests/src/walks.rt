@@ -3,11 +3,10 @@ ghost use Rattle.std.specs.Prelude.{◌≡◌, IfOk};
 ghost use Rattle.ht_word.specs.Words.{IsWordOf};
 ghost use Rattle.ht_types.specs.Flows.{IsUnderInfinite};
 
-use crate::texts::element_of;
-use ht_quasi::quasinormal;
+use crate::told::{Asked, told_of};
 use ht_text::read_word;
-use ht_types::{Direction, Kind, Typed, exit_of, types, walk_of};
-use ht_word::{Shape, Word};
+use ht_types::{Direction, Kind, Typed, exit_of, walk_of};
+use ht_word::Word;
 use std::alloc::Global;
 use std::process::Abort;
 use std::test::Fail;
@@ -44,7 +43,8 @@ fn told_behind(rt: &impl Abort, alloc: Global, typed: &Typed, text: &str) -> Res
     Ok(format!(in alloc; "{} {}{rest:?} {letters:?};", walk.steps, walk.to)?)
 }
 
-fn all_behind(rt: &impl Abort, alloc: Global, typed: &Typed) -> Result<String, Fail> {
+// Of four words, one after another.
+pub(crate) fn all_behind(rt: &impl Abort, alloc: Global, typed: &Typed) -> Result<String, Fail> {
     let mut text = String::new(alloc);
     for word in ["x4.121", "x2", "x4", "x4.22"] {
         text.push_str(&told_behind(rt, alloc, typed, word)?)?;
@@ -52,15 +52,9 @@ fn all_behind(rt: &impl Abort, alloc: Global, typed: &Typed) -> Result<String, F
     Ok(text)
 }
 
-fn passage_behind(rt: &impl Abort, alloc: Global) -> Result<String, Fail> {
-    let element = element_of(alloc, Shape::new(2, 4)?, PASSAGE)?;
-    let typed = types(alloc, &element, quasinormal(alloc, &element, 9)?)?;
-    all_behind(rt, alloc, &typed)
-}
-
 #[test]
 fn walks_and_exits_lead_back(rt: HostRuntime) -> Result<(), Fail> {
-    let text = passage_behind(&rt, rt.alloc())?;
+    let text = told_of(&rt, rt.alloc(), 2, 4, PASSAGE, Asked::Behind)?;
     let wanted = "3 0[2, 1] [];1 0[2, 1] [];0 3[] [2, 1];2 0[2, 2] [];";
     assert_eq!(rt; text.as_str(), wanted);
     Ok(())
