@@ -11,7 +11,7 @@ use Rattle.ht_quasi.specs.declared.quasi.Quasi.{Quasi}
 use Rattle.ht_types.specs.declared.kind.Kind.{Kind}
 use Rattle.ht_types.specs.TypedElements.{IsTyped}
 use Rattle.ht_parts.proofs.CycleTests.{all_cycles}
-use Rattle.ht_ask.specs.Budgets.{FitsBudget}
+use Rattle.ht_pair.specs.Budgets.{FitsBudget}
 use Rattle.ht_ask.specs.Conjugations.{IsPeriodic, HasInfinitePart}
 
 -- what a typed element tells of the element that it was made for, and of its shape

@@ -13,7 +13,7 @@ use Rattle.ht_pair.specs.Parts.{IsInfinitePart}
 use Rattle.ht_pair.specs.SemiNormal.{IsQuasinormal}
 use Rattle.ht_pair.specs.Verdicts.{IsVerdict}
 use Rattle.ht_pair.specs.declared.verdict.Verdict.{Verdict}
-use Rattle.ht_ask.specs.Budgets.{FitsBudget}
+use Rattle.ht_pair.specs.Budgets.{FitsBudget}
 
 pub record IsPeriodic (shape : Shape) (budget : ℕ) (p : List Row) : Type 0 where
   pub basis : List Word

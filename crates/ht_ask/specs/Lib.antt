@@ -1,6 +1,5 @@
 pub use Rattle.ht_pair.specs.Images
 pub use Rattle.ht_answer.specs.Answers
-pub mod Budgets
 pub mod Questions
 pub mod ShownImages
 pub mod PartAnswers

@@ -20,7 +20,7 @@ use Rattle.ht_share.specs.PondLists.{ArePonds}
 use Rattle.ht_answer.specs.declared.answer.Answer as answers
 use Rattle.ht_answer.specs.declared.answer.Answer.TheVariants as answer
 use Rattle.ht_answer.specs.declared.answer.Refusal.TheVariants as refusal
-use Rattle.ht_ask.specs.Budgets.{FitsBudget}
+use Rattle.ht_pair.specs.Budgets.{FitsBudget}
 use Rattle.ht_ask.specs.declared.question.Question.{Question}
 use Rattle.ht_ask.specs.declared.question.Question.TheVariants.{Show, Basis, Order, Types, Profile, Ponds}
 

@@ -1,7 +1,7 @@
 //! The two parts of an element.
 ghost use Rattle.std.specs.Prelude.{◌≡◌, ◌≤◌, ℕ, IfOk, IsErrOf};
 ghost use Rattle.ht_ask.specs.declared.parts.PartsFault.TheVariants as fault;
-ghost use Rattle.ht_ask.specs.Budgets.{IsOverBudget};
+ghost use Rattle.ht_pair.specs.Budgets.{IsOverBudget};
 ghost use Rattle.ht_ask.specs.PartAnswers.{ArePartsOf, HasLargePart};
 
 use crate::typed::typed_of;

@@ -4,7 +4,7 @@ ghost use Rattle.ht_word.specs.Words.{IsWordOf};
 ghost use Rattle.ht_pair.specs.Images.{Entry, IsImage};
 ghost use Rattle.ht_text.specs.Texts.{HasRowsText};
 ghost use Rattle.ht_answer.specs.Answers.{HasAnswerText};
-ghost use Rattle.ht_ask.specs.Budgets.{IsOverBudget};
+ghost use Rattle.ht_pair.specs.Budgets.{IsOverBudget};
 ghost use Rattle.ht_ask.specs.Questions.{TakesBasis, Tells};
 ghost use Rattle.ht_ask.specs.ShownImages.{rows_from};
 

@@ -2,7 +2,7 @@
 ghost use Rattle.std.specs.Prelude.{◌≤◌, ◌↔◌, IfOk, IsTrue, IsErrOf};
 ghost use Rattle.ht_word.specs.Words.{IsWordOf, IsUnderSome};
 ghost use Rattle.ht_answer.specs.Answers.{HasAnswerText};
-ghost use Rattle.ht_ask.specs.Budgets.{IsOverBudget};
+ghost use Rattle.ht_pair.specs.Budgets.{IsOverBudget};
 ghost use Rattle.ht_ask.specs.ShareAnswers.{TellsShare};
 
 use crate::typed::typed_of;

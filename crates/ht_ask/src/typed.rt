@@ -4,7 +4,7 @@ ghost use Rattle.ht_pair.specs.Bases.{TakesAtMost};
 ghost use Rattle.ht_types.specs.declared.order.Order.TheVariants as order;
 ghost use Rattle.ht_types.specs.TypedElements.{IsTyped};
 ghost use Rattle.ht_answer.specs.Answers.{HasAnswerText};
-ghost use Rattle.ht_ask.specs.Budgets.{IsOverBudget};
+ghost use Rattle.ht_pair.specs.Budgets.{IsOverBudget};
 ghost use Rattle.ht_ask.specs.Questions.{Tells, order_answer};
 ghost use Rattle.ht_ask.specs.declared.question.Question.TheVariants as question;
 

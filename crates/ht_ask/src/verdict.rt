@@ -2,7 +2,7 @@
 ghost use Rattle.std.specs.Prelude.{◌≡◌, ◌≤◌, IfOk, IsErrOf, MatchOption};
 ghost use Rattle.ht_pair.specs.Bases.{TakesAtMost};
 ghost use Rattle.ht_ask.specs.declared.verdict.VerdictFault.TheVariants as fault;
-ghost use Rattle.ht_ask.specs.Budgets.{FitsBudget, IsOverBudget};
+ghost use Rattle.ht_pair.specs.Budgets.{FitsBudget, IsOverBudget};
 ghost use Rattle.ht_ask.specs.Conjugations.{IsDecided, IsUndecided};
 
 use crate::typed::typed_of;

@@ -10,7 +10,7 @@ use Rattle.ht_script.specs.declared.line.Line.{Line}
 use Rattle.ht_script.specs.declared.line.Line.TheVariants as line
 use Rattle.ht_answer.specs.declared.answer.Answer.TheVariants.{Conjugate, NotConjugate, Refused}
 use Rattle.ht_answer.specs.declared.answer.Refusal.TheVariants as refusal
-use Rattle.ht_ask.specs.Budgets.{FitsBudget, IsOverBudget}
+use Rattle.ht_pair.specs.Budgets.{FitsBudget, IsOverBudget}
 use Rattle.ht_ask.specs.Conjugations.{IsDecided, IsUndecided}
 use Rattle.ht_calc.specs.Names.{rows_by_name, bound, bind, AreBound, AreOfShape, HasRoom}
 use Rattle.ht_calc.specs.States.{State}

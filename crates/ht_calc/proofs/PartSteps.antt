@@ -6,7 +6,7 @@ use Rattle.ht_script.specs.declared.line.Line.TheVariants as line
 use Rattle.ht_answer.specs.declared.answer.Answer.{Answer}
 use Rattle.ht_answer.specs.declared.answer.Answer.TheVariants.{Parts, Refused}
 use Rattle.ht_answer.specs.declared.answer.Refusal.TheVariants as refusal
-use Rattle.ht_ask.specs.Budgets.{IsOverBudget}
+use Rattle.ht_pair.specs.Budgets.{IsOverBudget}
 use Rattle.ht_calc.specs.Names.{bound, bind, HasRoomFor}
 use Rattle.ht_ask.specs.PartAnswers.{ArePartsOf, HasLargePart}
 use Rattle.ht_calc.specs.States.{State}

@@ -6,7 +6,7 @@ use Rattle.ht_answer.specs.declared.answer.Answer.TheVariants.{Refused}
 use Rattle.ht_answer.specs.declared.answer.Refusal.TheVariants as refusal
 use Rattle.ht_ask.specs.declared.question.Question.{Question}
 use Rattle.ht_ask.specs.declared.question.Question.TheVariants.{Show, Basis, Order, Types, Profile, Ponds}
-use Rattle.ht_ask.specs.Budgets.{IsOverBudget}
+use Rattle.ht_pair.specs.Budgets.{IsOverBudget}
 use Rattle.ht_ask.specs.Questions.{TakesBasis}
 use Rattle.ht_calc.specs.LineNames.{reads, binds, asks, NeedsGroup, MeetsBudget}
 use Rattle.ht_calc.specs.Names.{bound, AreBound, IsFirstUnbound, IsFirstOver, HasRoomFor}

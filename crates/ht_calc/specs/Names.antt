@@ -19,7 +19,7 @@ use Rattle.ht_word.specs.declared.shape.Shape.{Shape}
 use Rattle.ht_pair.specs.declared.row.Row.{Row}
 use Rattle.ht_pair.specs.Pairs.{IsPair}
 use Rattle.ht_pair.specs.Elements.{ElementValue}
-use Rattle.ht_ask.specs.Budgets.{FitsBudget, IsOverBudget}
+use Rattle.ht_pair.specs.Budgets.{FitsBudget, IsOverBudget}
 
 abbrev pub rows_by_name : List (List ℕ × ElementValue) → List (List ℕ × List Row)
 rows_by_name entries = map (λ entry. (entry.0, entry.1.rows)) entries

@@ -6,8 +6,9 @@
 //! - `bases`: expansions of bases, and which words are a basis
 //! - `files`: element files
 //! - `images`: images under many steps, and behind letters
+//! - `local`: conjugacy on the atoms of two elements
 //! - `rows`: places in the rows of an element
-//! - `told`: what is told of an element with its kinds
+//! - `told`: what is told of elements with their kinds
 //! - `walks`: walks and exits behind
 #![tactic(auto)]
 
@@ -19,6 +20,8 @@ mod bases;
 mod files;
 #[cfg(test)]
 mod images;
+#[cfg(test)]
+mod local;
 #[cfg(test)]
 mod rows;
 #[cfg(test)]

@@ -1,10 +1,11 @@
-//! What is told of an element with its kinds. One function owns such an element: where it is let go, the
+//! What is told of elements with their kinds. One function owns such an element: where it is let go, the
 //! prover goes through all that it keeps.
 use crate::atoms::{told_atoms, told_links};
+use crate::local::told_conjugacy;
 use crate::texts::element_of;
 use crate::walks::all_behind;
 use ht_quasi::quasinormal;
-use ht_types::types;
+use ht_types::{Typed, types};
 use ht_word::Shape;
 use std::alloc::Global;
 use std::process::Abort;
@@ -12,10 +13,11 @@ use std::test::Fail;
 
 // What an element with its kinds is asked.
 #[derive(Clone, Copy, Debug)]
-pub(crate) enum Asked {
+pub(crate) enum Asked<'a> {
     Atoms,
     Links,
     Behind,
+    Into(&'a str),
 }
 
 // What the element of G(n,r) with these rows tells.
@@ -25,7 +27,7 @@ pub(crate) fn told_of(
     n: u32,
     r: u32,
     rows: &str,
-    asked: Asked,
+    asked: Asked<'_>,
 ) -> Result<String, Fail> {
     let element = element_of(alloc, Shape::new(n, r)?, rows)?;
     let typed = types(alloc, &element, quasinormal(alloc, &element, 9)?)?;
@@ -33,5 +35,13 @@ pub(crate) fn told_of(
         Asked::Atoms => told_atoms(alloc, &typed),
         Asked::Links => told_links(alloc, &typed),
         Asked::Behind => all_behind(rt, alloc, &typed),
+        Asked::Into(other) => told_with(alloc, &typed, other),
     }
+}
+
+// What it tells with the element of these other rows.
+fn told_with(alloc: Global, f: &Typed, rows: &str) -> Result<String, Fail> {
+    let element = element_of(alloc, f.element().shape(), rows)?;
+    let g = types(alloc, &element, quasinormal(alloc, &element, 9)?)?;
+    told_conjugacy(alloc, f, &g)
 }

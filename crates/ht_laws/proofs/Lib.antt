@@ -11,7 +11,6 @@ pub mod PeriodicOrderLaws
 pub mod RowClassLaws
 pub mod OrbitLaws
 pub mod TogetherLaws
-pub mod AtomExistence
 pub mod ConjugatorLaws
 pub mod CarriedLaws
 pub mod ElementLaws

@@ -15,7 +15,7 @@ use Rattle.ht_pair.proofs.BasisLaws.{basis_single, some_at}
 use Rattle.ht_pair.proofs.CarriesLaws.{carries_single, carries_back, carries_word, carries_extends, carries_sum}
 use Rattle.ht_quasi.proofs.StepLaws.{at_place, listed_at, same_at}
 use Rattle.ht_types.specs.Flows.{power_in, IsEndIn}
-use Rattle.ht_types.specs.Links.{ReachesEnd, IsLink, ConnectEnds}
+use Rattle.ht_types.specs.Links.{ReachesEnd, IsLink, ConnectEnds, reach_in}
 use Rattle.ht_types.specs.TypedElements.{TypedValue, IsTyped}
 use Rattle.ht_types.specs.declared.direction.Direction.{Direction}
 use Rattle.ht_types.specs.declared.direction.Direction.TheVariants.{Ahead, Behind}
@@ -30,7 +30,7 @@ use Rattle.ht_types.proofs.PlacedWords.{at_places, placed_word}
 use Rattle.ht_types.proofs.TypedLaws.{typed_base}
 use Rattle.ht_pieces.proofs.InsideLaws.{inside_from_under}
 use Rattle.ht_pieces.proofs.KeptAtoms.{carried_into_atom}
-use Rattle.ht_links.specs.Listing.{reach_in, ListsEnd}
+use Rattle.ht_links.specs.Listing.{ListsEnd}
 use Rattle.ht_links.proofs.ChainLaws.{AreTogether, AreNear, together_on, together_back, near_equivalence}
 use Rattle.ht_links.proofs.ListingLaws.{IsWhole}
 

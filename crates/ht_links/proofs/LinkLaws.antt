@@ -7,8 +7,8 @@ use Rattle.ht_pair.specs.Steps.{Carries}
 use Rattle.ht_pair.specs.Kinds.{IsCycleWord}
 use Rattle.ht_pair.proofs.KindLaws.{cycle_no_attractor, cycle_no_repeller}
 use Rattle.ht_quasi.proofs.StepLaws.{listed_at}
-use Rattle.ht_types.specs.Flows.{power_in, IsEndIn, IsExit, IsUnderInfinite}
-use Rattle.ht_types.specs.Links.{ReachesEnd, IsLink}
+use Rattle.ht_types.specs.Flows.{power_in, IsEndIn, IsExit, IsUnderInfinite, opposite}
+use Rattle.ht_types.specs.Links.{ReachesEnd, IsLink, reach_in}
 use Rattle.ht_types.specs.TypedElements.{TypedValue, IsTyped}
 use Rattle.ht_types.specs.declared.direction.Direction.{Direction}
 use Rattle.ht_types.specs.declared.direction.Direction.TheVariants.{Ahead, Behind}
@@ -17,7 +17,7 @@ use Rattle.ht_types.specs.declared.kind.Reach.{Reach}
 use Rattle.ht_types.specs.declared.link.Link.{Link}
 use Rattle.ht_types.proofs.PeriodicLaws.{carried_further}
 use Rattle.ht_types.proofs.TypedLaws.{typed_base}
-use Rattle.ht_links.specs.Listing.{opposite, reach_in, IsLinkUnder, IsEndLink, IsStepFrom, AreEndLinks}
+use Rattle.ht_links.specs.Listing.{IsLinkUnder, IsEndLink, IsStepFrom, AreEndLinks}
 use Rattle.ht_links.proofs.ReachLaws.{exit_reach, exit_reaches, reaches_behind, infinite_behind, no_steps, end_stays, end_moves}
 
 -- ---- under a word

@@ -1,8 +1,6 @@
 -- Which links of an element are listed: one for each row of what one step carries under its basis, and two for each end. This project's own. t is the
 -- element with its quasinormal basis.
 --
---     opposite direction              the other direction
---     reach_in direction link         the link's reach in the direction
 --     IsLinkUnder t u link            a link whose cone is under u
 --     IsEndLink direction u exit own link   the link of u with the exit's letters that reaches by own in the direction, and the exit's end in the other
 --     IsStepFrom t direction x letters reach   one step in the direction carries x with the letters under the word of the basis at the reach's place
@@ -18,21 +16,12 @@ use Rattle.ht_word.specs.Words.{◌·◌, IsUnder}
 use Rattle.ht_pair.specs.declared.row.Row.{Row}
 use Rattle.ht_pair.specs.Steps.{Carries}
 use Rattle.ht_types.specs.declared.direction.Direction.{Direction}
-use Rattle.ht_types.specs.declared.direction.Direction.TheVariants.{Ahead, Behind}
 use Rattle.ht_types.specs.declared.exit.Exit.{Exit}
 use Rattle.ht_types.specs.declared.kind.Reach.{Reach}
 use Rattle.ht_types.specs.declared.link.Link.{Link}
-use Rattle.ht_types.specs.Flows.{power_in, IsEndIn, IsUnderInfinite}
-use Rattle.ht_types.specs.Links.{IsLink}
+use Rattle.ht_types.specs.Flows.{power_in, IsEndIn, IsUnderInfinite, opposite}
+use Rattle.ht_types.specs.Links.{IsLink, reach_in}
 use Rattle.ht_types.specs.TypedElements.{TypedValue}
-
-abbrev pub opposite : Direction → Direction
-opposite Ahead = Behind
-opposite Behind = Ahead
-
-abbrev pub reach_in : Direction → Link → Reach
-reach_in Ahead link = link.ahead
-reach_in Behind link = link.behind
 
 pub record IsLinkUnder (t : TypedValue) (u : Word) (link : Link) : Type 0 where
   pub made : IsLink t link

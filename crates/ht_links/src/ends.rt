@@ -3,7 +3,7 @@ ghost use Rattle.std.specs.Prelude.{◌≡◌, ◌<◌, ◌+◌, Some, length, s
 ghost use Rattle.ht_word.specs.declared.word.Word.{Word as WordValue};
 ghost use Rattle.ht_word.specs.Words.{IsLetters};
 ghost use Rattle.ht_types.specs.Flows.{IsEndIn};
-ghost use Rattle.ht_links.specs.Listing.{opposite, IsEndLink, IsStepFrom, AddsEndLinks};
+ghost use Rattle.ht_links.specs.Listing.{IsEndLink, IsStepFrom, AddsEndLinks};
 
 use ht_types::{Direction, Exit, Kind, Link, Links, Reach, Step, Typed, exit_of};
 use ht_word::{Letters, NoMemory, Word};
@@ -46,7 +46,7 @@ fn add_links_of(
     ensures { OnOk result (AddsEndLinks t.now place (place + 1) links.old links.new) }
 {
     let word = t.quasi().basis.words().at(place);
-    let exit = exit_of(alloc, t, opposite_of(direction), word)?;
+    let exit = exit_of(alloc, t, direction.opposite(), word)?;
     let itself = Reach {
         steps: 0,
         to: place,
@@ -111,14 +111,4 @@ fn end_link(
             behind: own,
         },
     })
-}
-
-// The other direction.
-fn opposite_of(direction: Direction) -> Direction
-    ensures { result ≡ opposite direction }
-{
-    match direction {
-        Direction::Ahead => Direction::Behind,
-        Direction::Behind => Direction::Ahead,
-    }
 }

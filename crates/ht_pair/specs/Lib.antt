@@ -17,6 +17,7 @@ pub mod Steps
 pub mod Products
 pub mod Conjugacy
 pub mod SemiNormal
+pub mod Budgets
 pub mod BadChains
 pub mod Repeats
 pub mod Kinds
@@ -32,6 +33,7 @@ pub mod Atoms
 pub mod LocalConjugacy
 pub mod NormalConjugators
 pub mod Verdicts
+pub mod Decisions
 pub mod PowerSizes
 pub mod PowerTrials
 pub mod FiniteTrials

@@ -6,6 +6,7 @@
 //! - `row`: rows and lists of rows
 //! - `element`: elements, made from rows
 //! - `basis`: bases in ascending order, and the test whether words are a basis
+//! - `decider`: what decides whether elements are conjugate
 //! - `fault`: why rows are no element, and why elements have no product
 //! - `reduce`: the reduced rows of a pair, and of a table
 //! - `moves`: how rows move words
@@ -18,6 +19,7 @@
 #![tactic(auto)]
 
 mod basis;
+mod decider;
 mod element;
 mod fault;
 mod headed;
@@ -31,6 +33,7 @@ mod tiling;
 mod verdict;
 
 pub use basis::{Basis, is_basis};
+pub use decider::{DecideFault, Decider, Which};
 pub use element::{Element, copy_rows};
 pub use fault::{OpFault, RowsFault};
 pub use headed::first_under;

@@ -21,7 +21,7 @@ pub record SendsAlike (shape : Shape) (m : List Row) (F : Word → Word → Type
   pub alike : (u v : Word) → IsWordOf shape u → bound ≤ length u.letters → Moves m u v → F u v
 
 -- rows move words to under their `to` words
-moved_under : (m : List Row) (u v : Word) → Moves m u v → IsUnderSome v (to_words m)
+pub moved_under : (m : List Row) (u v : Word) → Moves m u v → IsUnderSome v (to_words m)
 moved_under m u v h = some_at (to_words m) h.row.to v (Contains-map (λ (t : Row). t.to) m h.row h.listed) (record { rest = h.rest; is = h.to })
 
 -- F goes from V to W, and the `from` words of m cover V

@@ -110,7 +110,7 @@ module _ {shape : Shape} {f g : List Row} {X Y V W : List Word} {F : Word → Wo
   grows = a.attractor.lengthens.1
 
   -- what F sends x with G some times to, m steps of g lengthen by G
-  lengthened : (s : ℕ) (v : Word) → F (x · repeated s G) v → Carries shape g (pos m) v (v · G)
+  pub lengthened : (s : ℕ) (v : Word) → F (x · repeated s G) v → Carries shape g (pos m) v (v · G)
   lengthened s v sent =
       let u = x · repeated s G in
       let far = carries_times shape f first.pair m x G grows s in

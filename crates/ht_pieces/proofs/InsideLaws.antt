@@ -1,13 +1,13 @@
 -- Words inside a list of words: under it behind enough letters.
-use Rattle.std.proofs.Common.{ℕ, ◌≤◌, ◌++◌, List, max, length, sym, subst, arith, Contains}
+use Rattle.std.proofs.Common.{ℕ, ◌≤◌, ◌++◌, List, max, length, sym, subst, arith, All, Contains}
 use Rattle.std.proofs.lemmas.List.{length-append}
 use Rattle.std.proofs.lemmas.List.Elements.{All-contains}
 use Rattle.ht_word.specs.Words.{◌·◌, IsLetters, IsWordOf, IsUnder, IsUnderSome}
 use Rattle.ht_word.specs.declared.shape.Shape.{Shape}
 use Rattle.ht_word.specs.declared.word.Word.{Word}
-use Rattle.ht_word.proofs.WordLaws.{after-append, length-after, length-ones, letters_append, ones, ones_letters, under_after, under_trans, word_after}
-use Rattle.ht_pair.specs.Bases.{Covers, IsBasis, longest}
-use Rattle.ht_pair.proofs.BasisLaws.{basis_single, covers_long, some_at, some_shorter, some_trans}
+use Rattle.ht_word.proofs.WordLaws.{after-append, length-after, length-ones, letters_append, ones, ones_letters, under_after, under_trans, word_after, word_front, word_rest}
+use Rattle.ht_pair.specs.Bases.{Covers, IsBasis, IsPrefixFree, longest}
+use Rattle.ht_pair.proofs.BasisLaws.{basis_single, covers_from, covers_long, some_at, some_shorter, some_trans}
 use Rattle.ht_pieces.specs.Pieces.{IsInside}
 
 -- what is under V is inside it
@@ -24,6 +24,10 @@ inside_extends {shape} {V} {u} d z hz = record {
 -- a long word inside V is under V
 pub inside_long : {shape : Shape} {V : List Word} {u : Word} → IsInside shape V u → longest V ≤ length u.letters → IsUnderSome u V
 inside_long {shape} {V} {u} d l = some_shorter V u (ones d.letters) l (d.under (ones d.letters) (ones_letters shape d.letters) (omega (arith, length-ones d.letters)))
+
+-- a long word above a word inside V is inside V
+pub inside_above : (shape : Shape) (V : List Word) (u : Word) (z : List ℕ) → IsInside shape V (u · z) → longest V ≤ length u.letters → IsInside shape V u
+inside_above shape V u z d l = inside_from_under shape V u (word_front shape u z d.word) (some_shorter V u z l (inside_long d (omega (arith, length-after u z))))
 
 -- a word is inside V where it is so behind enough letters
 pub inside_far : (shape : Shape) (V : List Word) (u : Word) → IsWordOf shape u → (k : ℕ) → ((y : List ℕ) → IsLetters shape y → k ≤ length y → IsInside shape V (u · y)) → IsInside shape V u
@@ -42,3 +46,18 @@ inside_listed {shape} {X} {V} basis within {u} d x c under =
     let y = ones d.letters in
     let s = d.under y (ones_letters shape d.letters) (omega (arith, length-ones d.letters)) in
     subst (Contains V) (basis_single shape X basis (u · y) s.above x (within s.above s.listed) c s.under (under_trans (under_after u y) under)) s.listed
+
+-- words that are apart, all inside V, and with all words of V inside them, cover V
+pub inside_covers : (shape : Shape) (W V : List Word) → All (IsWordOf shape) W → IsPrefixFree W → ((w : Word) → Contains W w → IsInside shape V w)
+    → ((v : Word) → Contains V v → IsInside shape W v) → Covers shape W V
+inside_covers shape W V words free to from = covers_from shape W V words free (max (longest W) (longest V)) (λ u hu l. (
+  (λ s. within W V to u hu (omega arith) s),
+  (λ s. within V W from u hu (omega arith) s),
+))
+  where
+    within : (U T : List Word) → ((w : Word) → Contains U w → IsInside shape T w) → (u : Word) → IsWordOf shape u → longest T ≤ length u.letters
+        → IsUnderSome u U → IsUnderSome u T
+    within U T to u hu l s =
+        let z = s.under.rest in
+        let hz = word_rest shape s.above z (subst (IsWordOf shape) s.under.is hu) in
+        inside_long (subst (IsInside shape T) (sym s.under.is) (inside_extends (to s.above s.listed) z hz)) l

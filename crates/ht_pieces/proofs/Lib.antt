@@ -4,13 +4,16 @@ pub mod KeptLaws
 pub mod KeptAtoms
 pub mod AtomEnds
 pub mod LinkedWords
+pub mod Anchors
+pub mod Rising
+pub mod KeptPieces
 pub mod PartMaps
 pub mod AlikeRows
 pub mod PartRows
 pub mod Conjugating
 pub mod ConjugatingRows
+pub mod FilledAtoms
 pub mod Agreeing
-pub mod Anchors
 pub mod Rigidity
 pub mod TurnedLetters
 pub mod Values

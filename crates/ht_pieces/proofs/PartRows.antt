@@ -1,7 +1,7 @@
 -- Rows of a relation between two parts: from all words of enough letters under the one.
-use Rattle.std.proofs.Common.{ℕ, ◌≤◌, inl, inr, List, [], ◌∷◌, max, sym, subst, subst₂, arith, Contains}
+use Rattle.std.proofs.Common.{ℕ, ◌≤◌, inl, inr, List, [], ◌∷◌, length, max, sym, subst, subst₂, arith, Contains}
 use Rattle.std.proofs.lemmas.List.Elements.{All-contains}
-use Rattle.ht_word.specs.Words.{IsWordOf, IsUnderSome}
+use Rattle.ht_word.specs.Words.{◌·◌, IsWordOf, IsUnderSome}
 use Rattle.ht_word.specs.declared.shape.Shape.{Shape}
 use Rattle.ht_word.specs.declared.word.Word.{Word}
 use Rattle.ht_word.proofs.Deciding.{under_some_or_not}
@@ -13,6 +13,7 @@ use Rattle.ht_pair.specs.Pairs.{from_words}
 use Rattle.ht_pair.specs.declared.row.Row.{Row}
 use Rattle.ht_pair.proofs.BasisLaws.{basis_holds, basis_word, covers_from, longest_least, some_at, some_shorter, some_trans, words_of, words_of_basis, words_of_length}
 use Rattle.ht_pair.proofs.PrefixMapLaws.{rows_of}
+use Rattle.ht_pieces.specs.Pieces.{IsInside}
 use Rattle.ht_pieces.proofs.InsideLaws.{inside_from_under}
 use Rattle.ht_pieces.proofs.PartMaps.{IsPartMap}
 
@@ -73,21 +74,24 @@ pub record HasRows (shape : Shape) (V : List Word) (F : Word → Word → Type 0
   pub from : Covers shape (from_words rows) V
   pub by : (u v : Word) → Moves rows u v → F u v
 
--- a word under V of enough letters is sent somewhere
-sent_somewhere : {shape : Shape} {V W : List Word} {F : Word → Word → Type 0} → (f : IsPartMap shape V W F) → (k : ℕ) → f.bound ≤ k → (under : AreUnder V (words_of shape k))
-    → (w : Word) → Contains under.words w → (v : Word) × F w v
-sent_somewhere {shape} {V} f k l under w c =
-    let a = under.among w c in
-    f.total w (inside_from_under shape V w (basis_word shape (words_of shape k) (words_of_basis shape k) w a.0) a.1) (omega (arith, words_of_length shape k w a.0))
-
--- each relation between parts has such rows
-pub part_rows : {shape : Shape} {V W : List Word} {F : Word → Word → Type 0} → IsPartMap shape V W F → HasRows shape V F
-part_rows {shape} {V} {W} {F} f =
-    let k = max f.bound (longest V) in
+-- a relation that sends the words inside V of enough letters somewhere, and keeps what follows a prefix, has such rows
+pub sending_rows : {shape : Shape} {V : List Word} {F : Word → Word → Type 0} → ((u v : Word) (z : List ℕ) → F u v → F (u · z) (v · z)) → (bound : ℕ)
+    → ((u : Word) → IsInside shape V u → bound ≤ length u.letters → (v : Word) × F u v) → HasRows shape V F
+sending_rows {shape} {V} {F} extends bound total =
+    let k = max bound (longest V) in
     let under = are_under V (words_of shape k) in
-    let r = rows_of F under.words (sent_somewhere f k (omega arith) under) in
+    let r = rows_of F under.words (sent k (omega arith) under) in
     record {
       rows = r.rows;
       from = subst (λ U. Covers shape U V) (sym r.from_is) (under_cover shape V k (omega arith) under);
-      by = λ u v h. subst₂ F (sym h.from) (sym h.to) (f.extends h.row.from h.row.to h.rest (r.by h.row h.listed));
+      by = λ u v h. subst₂ F (sym h.from) (sym h.to) (extends h.row.from h.row.to h.rest (r.by h.row h.listed));
     }
+  where
+    sent : (k : ℕ) → bound ≤ k → (under : AreUnder V (words_of shape k)) → (w : Word) → Contains under.words w → (v : Word) × F w v
+    sent k l under w c =
+        let a = under.among w c in
+        total w (inside_from_under shape V w (basis_word shape (words_of shape k) (words_of_basis shape k) w a.0) a.1) (omega (arith, words_of_length shape k w a.0))
+
+-- so has each relation between parts
+pub part_rows : {shape : Shape} {V W : List Word} {F : Word → Word → Type 0} → IsPartMap shape V W F → HasRows shape V F
+part_rows f = sending_rows f.extends f.bound f.total

@@ -1,13 +1,16 @@
 //! What holds of atoms, and of rows that conjugate on them.
-ghost use Rattle.std.specs.Prelude.{ℕ, List, [], ◌∷◌, All, Contains};
+ghost use Rattle.std.specs.Prelude.{ℕ, ◌≡◌, List, [], ◌∷◌, All, Contains};
 ghost use Rattle.ht_word.specs.declared.word.Word.{Word};
 ghost use Rattle.ht_word.specs.declared.shape.Shape.{Shape};
+ghost use Rattle.ht_word.specs.Words.{IsUnderSome, IsWordOf};
 ghost use Rattle.ht_pair.specs.declared.row.Row.{Row};
+ghost use Rattle.ht_pair.specs.Actions.{Moves};
 ghost use Rattle.ht_pair.specs.Atoms.{IsInfiniteWord, IsAtom, words_at};
+ghost use Rattle.ht_pair.specs.Bases.{Covers, IsPrefixFree};
 ghost use Rattle.ht_pair.specs.Kinds.{IsAttractorWord, IsRepellerWord};
 ghost use Rattle.ht_pair.specs.LocalConjugacy.{ConjugatesOn};
 ghost use Rattle.ht_pair.specs.NormalConjugators.{IsLeastAttractor, CarriesToAttractor};
-ghost use Rattle.ht_pair.specs.Pairs.{IsPair};
+ghost use Rattle.ht_pair.specs.Pairs.{IsPair, from_words, to_words};
 ghost use Rattle.ht_pair.specs.SemiNormal.{IsSemiNormal};
 ghost use Rattle.ht_pieces.specs.Agreements.{AreAlikeUnder};
 ghost use Rattle.ht_pieces.specs.Pieces.{IsInside, IsKept};
@@ -39,4 +42,10 @@ pub fn conjugators_that_meet_once_are_one()
 /// least attractor to an attractor and few letters.
 pub fn some_conjugator_is_normal()
     ensures { (shape : Shape) (f g : List Row) (X Y : List Word) → IsPair shape f → IsPair shape g → IsSemiNormal shape f X → IsSemiNormal shape g Y → (k l : List ℕ) → IsAtom shape f X k → IsAtom shape g Y l → (h : List Row) → ConjugatesOn shape h f (words_at X k) g (words_at Y l) → (c : Word) → IsLeastAttractor shape f X k c → (q : List Row) × ConjugatesOn shape q f (words_at X k) g (words_at Y l) × CarriesToAttractor shape q g (words_at Y l) c }
+{}
+
+/// Rows from all of an atom of f to words that are apart, that conjugate f into g there and move one
+/// word inside the atom into an atom of g, fill that atom: their `to` words cover it.
+pub fn rows_that_are_apart_fill_an_atom()
+    ensures { (shape : Shape) (f g : List Row) (X Y : List Word) → IsPair shape f → IsPair shape g → IsSemiNormal shape f X → IsSemiNormal shape g Y → (k l : List ℕ) → IsAtom shape f X k → IsAtom shape g Y l → (h : List Row) → Covers shape (from_words h) (words_at X k) → All (IsWordOf shape) (to_words h) → IsPrefixFree (to_words h) → ((u u' v v' w : Word) → IsWordOf shape u → IsUnderSome u (words_at X k) → Moves f u u' → Moves h u' v' → Moves h u v → Moves g v w → w ≡ v') → (u v : Word) → IsInside shape (words_at X k) u → Moves h u v → IsInside shape (words_at Y l) v → Covers shape (to_words h) (words_at Y l) }
 {}

@@ -26,6 +26,7 @@ pub mod AttractorLaws
 pub mod RepellerLaws
 pub mod ShareLaws
 pub mod AtomLaws
+pub mod AtomExistence
 pub mod PointLaws
 pub mod JoinedLaws
 pub mod AnchorLaws

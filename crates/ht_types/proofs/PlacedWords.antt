@@ -1,5 +1,5 @@
 -- The words of a list at some places.
-use Rattle.std.proofs.Common.{◌≡◌, ℕ, inl, inr, List, [], Option, None, Some, slice_get, sym, ap, ◌∙◌, subst, Contains, option_to_list}
+use Rattle.std.proofs.Common.{◌≡◌, ℕ, inl, inr, List, [], Option, None, Some, slice_get, sym, ap, subst, Contains, option_to_list}
 use Rattle.ht_word.specs.declared.word.Word.{Word}
 use Rattle.ht_word.proofs.ListLaws.{Contains-nil, Contains-here, Contains-cons_cases, Contains-flat_map, contained_in_flat_map}
 use Rattle.ht_pair.specs.Atoms.{words_at}

@@ -3,6 +3,7 @@
 --
 --     FlowsAhead shape p X u               some letters behind u, and a power from 0 on that carries u with them under an attractor
 --     FlowsBehind shape p X u              some letters behind u, and a power from 0 down that carries u with them under a repeller
+--     opposite direction                   the other direction
 --     power_in direction k                 the power that k steps in the direction make
 --     IsEndIn direction shape p x          walks in the direction end under x
 --     IsEndKind direction kind             they end under words of the kind
@@ -49,6 +50,10 @@ pub record FlowsBehind (shape : Shape) (p : List Row) (X : List Word) (u : Word)
   pub steps : ℕ
   pub to : Word
   pub reached : CarriesUnderSuch shape p (IsRepellerWord shape p) X (neg_ℤ (pos steps)) (u · letters) to
+
+abbrev pub opposite : Direction → Direction
+opposite Ahead = Behind
+opposite Behind = Ahead
 
 abbrev pub power_in : Direction → ℕ → ℤ
 power_in Ahead k = pos k

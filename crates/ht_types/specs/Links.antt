@@ -1,6 +1,7 @@
 -- Links: words of the infinite part that powers carry under both ends of a chain of walks. This project's own. t is an element with its
 -- quasinormal basis; its ends are the attractors and the repellers.
 --
+--     reach_in direction link          the link's reach in the direction
 --     ReachesEnd t direction u reach   the reach's steps in the direction carry u under the word of the basis at the reach's place, with the reach's
 --                                      letters behind it, and that word is an end of walks in the direction
 --     IsLink t link                    the cone is under the infinite part, and reaches an attractor ahead and a repeller behind
@@ -20,6 +21,10 @@ use Rattle.ht_types.specs.declared.kind.Reach.{Reach}
 use Rattle.ht_types.specs.declared.link.Link.{Link}
 use Rattle.ht_types.specs.Flows.{power_in, IsEndIn, IsUnderInfinite}
 use Rattle.ht_types.specs.TypedElements.{TypedValue}
+
+abbrev pub reach_in : Direction → Link → Reach
+reach_in Ahead link = link.ahead
+reach_in Behind link = link.behind
 
 pub record ReachesEnd (t : TypedValue) (direction : Direction) (u : Word) (reach : Reach) : Type 0 where
   pub above : Word

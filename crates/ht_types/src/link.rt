@@ -1,5 +1,8 @@
 //! Links, and the places of atoms.
+ghost use Rattle.std.specs.Prelude.{◌≡◌};
+ghost use Rattle.ht_types.specs.Links.{reach_in};
 
+use crate::direction::Direction;
 use crate::kind::Reach;
 use ht_word::{List, Word};
 
@@ -10,6 +13,18 @@ pub struct Link {
     pub cone: Word,
     pub ahead: Reach,
     pub behind: Reach,
+}
+
+impl Link {
+    /// The reach in the direction.
+    pub fn reach(&self, direction: Direction) -> &Reach
+        ensures { result.now ≡ reach_in direction self.now }
+    {
+        match direction {
+            Direction::Ahead => &self.ahead,
+            Direction::Behind => &self.behind,
+        }
+    }
 }
 
 /// Links, in any order.

@@ -1,4 +1,4 @@
-use Rattle.ht_laws.proofs.AtomExistence.{atom_exists}
+use Rattle.ht_types.proofs.AtomExistence.{atom_exists}
 use Rattle.ht_types.proofs.AtomLaws.{atom_infinite, atom_kept, atom_linked, atom_least}
 use Rattle.ht_laws.proofs.orbits.an_atom_is_a_least_piece_that_is_kept.Goals as goal
 

@@ -1,9 +1,9 @@
 use Rattle.std.proofs.Common.{◌≡◌, Some, slice_get, ◌∙◌, ap, subst}
 use Rattle.std.proofs.lemmas.Result.{on_ok_weaker}
 use Rattle.ht_quasi.specs.declared.quasi.Quasi.{Quasi}
-use Rattle.ht_types.specs.Flows.{IsExit}
+use Rattle.ht_types.specs.Flows.{IsExit, opposite}
 use Rattle.ht_types.specs.declared.direction.Direction.{Direction}
-use Rattle.ht_links.specs.Listing.{opposite, IsEndLink}
+use Rattle.ht_links.specs.Listing.{IsEndLink}
 use Rattle.ht_links.proofs.LinkLaws.{end_infinite, end_links}
 use Rattle.ht_links.proofs.ListingLaws.{end_linked}
 use Rattle.ht_links.proofs.ends.add_links_of.Goals as goal
@@ -29,7 +29,7 @@ returns c =
     let ends = c.requires.end x at in
     let first = c.in_ok-end_link.field-0 in
     let second = c.in_ok-end_link-2.field-0 in
-    let out : IsExit t.element.shape t.element.rows t.quasi.basis.words (opposite d) x exit = subst (λ (e : Direction). IsExit t.element.shape t.element.rows t.quasi.basis.words e x exit) c.opposite_of.ensures c.in_ok-exit.ensures in
+    let out : IsExit t.element.shape t.element.rows t.quasi.basis.words (opposite d) x exit = subst (λ (e : Direction). IsExit t.element.shape t.element.rows t.quasi.basis.words e x exit) c.opposite.ensures c.in_ok-exit.ensures in
     let copy : c.in_ok-from_slice.field-0 ≡ exit.letters = c.in_ok-from_slice.ensures ∙ c.as_slice.ensures in
     let one : IsEndLink d x exit (record { steps = 0; to = place; rest = exit.letters }) first = subst (λ z. IsEndLink d x exit (record { steps = 0; to = place; rest = z }) first) copy c.in_ok-end_link.ensures in
     let links = end_links t c.quasi.ensures.typed d place x at ends exit out c.in_ok-next.next first second one (c.in_ok-next.ensures x at) c.in_ok-end_link-2.ensures in

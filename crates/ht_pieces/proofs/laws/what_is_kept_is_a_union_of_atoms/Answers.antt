@@ -1,4 +1,4 @@
-use Rattle.ht_pieces.proofs.LinkedWords.{kept_union}
+use Rattle.ht_pieces.proofs.KeptPieces.{kept_union}
 use Rattle.ht_pieces.proofs.laws.what_is_kept_is_a_union_of_atoms.Goals as goal
 
 pub returns : goal.returns

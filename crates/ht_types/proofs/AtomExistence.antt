@@ -17,13 +17,12 @@ use Rattle.ht_pair.specs.SemiNormal.{IsSemiNormal}
 use Rattle.ht_pair.specs.Steps.{Carries}
 use Rattle.ht_pair.specs.declared.row.Row.{Row}
 use Rattle.ht_pair.proofs.BasisLaws.{front, front_is, length-front, under_front, basis_holds, basis_word, longest_least, words_of, words_of_basis, words_of_length}
-use Rattle.ht_pair.proofs.CarriesLaws.{carries_single, carries_extends, carries_back}
+use Rattle.ht_pair.proofs.CarriesLaws.{carries_single, carries_from_steps, carries_extends, carries_back}
 use Rattle.ht_pair.proofs.LeastBasisLaws.{without}
 use Rattle.ht_pair.proofs.MovesLaws.{moves_map}
 use Rattle.ht_pair.proofs.PrefixMapLaws.{IsCarrying, long_word, length-long, length-carried}
 use Rattle.ht_quasi.proofs.StepLaws.{listed_at}
 use Rattle.ht_types.proofs.PeriodicLaws.{cycle_kept}
-use Rattle.ht_laws.proofs.PrefixLaws.{moves_carries}
 
 -- some entry of a list has the property, or none has
 any_or_none : (P : Word → Type 0) (W : List Word) → ((w : Word) → Contains W w → P w ⊎ ¬ P w) → ((w : Word) × Contains W w × P w) ⊎ ((w : Word) → Contains W w → ¬ P w)
@@ -75,7 +74,7 @@ joined_at shape p pair m x y h =
     let v_long : length y.letters ≤ length (v.0).letters = length-carried shape (Moves p) m w v.0 (length y.letters) word_w (omega (arith, size)) v.1 in
     let letters_rest = word_rest shape w rest (subst (IsWordOf shape) u_is word_u) in
     let there : Carries shape p (pos 1) u (h.to · o) = carries_extends shape p (pos 1) h.from h.to o (ones_letters shape N) h.carries in
-    let here : Carries shape p (pos 1) u (v.0 · rest) = subst (λ t. Carries shape p (pos 1) t (v.0 · rest)) (sym u_is) (carries_extends shape p (pos 1) w v.0 rest letters_rest (moves_carries shape p w v.0 pair word_w v.1)) in
+    let here : Carries shape p (pos 1) u (v.0 · rest) = subst (λ t. Carries shape p (pos 1) t (v.0 · rest)) (sym u_is) (carries_extends shape p (pos 1) w v.0 rest letters_rest (carries_from_steps shape p pair (pos 1) w v.0 word_w (w, refl, v.1))) in
     let same : h.to · o ≡ v.0 · rest = carries_single shape p pair (pos 1) u (h.to · o) (v.0 · rest) there here in
     let below : IsUnder (v.0 · rest) y = subst (λ t. IsUnder t y) same (under_trans (under_after h.to o) h.under_second) in
     let v_under : IsUnder v.0 y = shorter (v.0 · rest) v.0 y (under_after v.0 rest) below v_long in
@@ -96,7 +95,7 @@ joined_or_not shape p pair x y =
     let N = m.bound + length y.letters + length x.letters in
     let word : (w : Word) → Contains (words_of shape N) w → IsWordOf shape w = basis_word shape (words_of shape N) (words_of_basis shape N) in
     elim (any_or_none (IsMovedBetween p x y) (words_of shape N) (λ w c. moved_or_not shape p m x y w (word w c) (omega (arith, words_of_length shape N w c)))) [
-      | inl (w, c, h) ↦ inl (record { from = w; to = h.to; under_first = h.from_under; carries = moves_carries shape p w h.to pair (word w c) h.moved; under_second = h.to_under })
+      | inl (w, c, h) ↦ inl (record { from = w; to = h.to; under_first = h.from_under; carries = carries_from_steps shape p pair (pos 1) w h.to (word w c) (w, refl, h.moved); under_second = h.to_under })
       | inr none ↦ inr (λ h. let g = joined_at shape p pair m x y h in none g.0 g.1 g.2)
     ]
 

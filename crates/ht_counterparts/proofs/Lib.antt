@@ -1,0 +1,13 @@
+pub mod PieceLaws
+pub mod PieceRelations
+pub mod GluedRows
+pub mod SentPieces
+pub mod PeriodicCounterparts
+pub mod AtomCounterparts
+pub mod ConjugateElements
+pub mod MatchedKeys
+pub mod MetEnds
+pub mod ToldEnds
+pub mod EndCounterparts
+pub mod SortedLists
+pub mod SortedEnds

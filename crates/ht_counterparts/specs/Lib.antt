@@ -1,0 +1,2 @@
+pub mod Counterparts
+pub mod Ends

@@ -1,0 +1,11 @@
+pub use Rattle.ht_types.specs.TypedElements
+pub mod LocalConjugators
+pub mod KnownValues
+pub mod Ways
+pub mod PlacedLists
+pub mod LocalAnswers
+pub mod Crossings
+pub mod Candidates
+pub mod LocalTrials
+pub mod Borders
+pub mod Propagations
