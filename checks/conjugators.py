@@ -1,7 +1,7 @@
-"""Conjugators of elements of finite order against the definition: each one that is printed is multiplied
-out, conjugates of one element are conjugate, and where the answer is that no element conjugates, none
-of few rows does. A name is bound after `conjugate ROWS` alone, elements of infinite order are
-refused, and a conjugator with too long words is printed and not kept.
+"""Conjugators against the definition: each one that is printed is multiplied out, conjugates of one
+element are conjugate, and where the answer is that no element conjugates, none of few rows does, and
+it is the same for the two elements exchanged. A name is bound after `conjugate ROWS` alone, and a
+conjugator with too long words is printed and not kept.
 
 usage: conjugators.py PROGRAM
 """
@@ -12,9 +12,9 @@ import sys
 
 from common.bases import all_bases
 from common.powers import product
-from common.words import all_letters, behind, is_canonical, longest, moved, parse, rows_text, some_basis, some_letters, some_pair, turned
+from common.words import all_letters, behind, is_canonical, longest, moved, parse, rows_text, some_basis, some_element, some_letters, some_pair, turned
 
-COMMANDS = ["let a = {a}", "let b = {b}", "order a", "order b", "basis a", "basis b", "conj {h} a b", "show {h}"]
+COMMANDS = ["let a = {a}", "let b = {b}", "order a", "order b", "basis a", "basis b", "conj {h} b a", "conj {h} a b", "show {h}"]
 
 # Groups, with the most expansions of the bases that are permuted and of those of the conjugators tried.
 GROUPS = [(2, 1, 5, 3), (2, 2, 4, 2), (3, 1, 4, 2), (3, 2, 3, 1), (4, 1, 3, 1), (5, 1, 3, 1), (5, 2, 2, 1)]
@@ -33,15 +33,22 @@ def permuted(rng, n, r, size):
     return product(n, r, [list(zip(words, others))])
 
 
+def exchanged(rng, n, r, rows):
+    """The canonical pair of the rows, with two `to` words exchanged."""
+    tos = [to for _, to in rows]
+    i, j = rng.randrange(len(tos)), rng.randrange(len(tos))
+    tos[i], tos[j] = tos[j], tos[i]
+    return product(n, r, [[(word, to) for (word, _), to in zip(rows, tos)]])
+
+
 def some_case(rng, n, r, most):
     """Two elements, and whether they are known to be conjugate."""
-    a = permuted(rng, n, r, rng.randrange(most + 1))
+    a = product(n, r, [some_element(rng, n, r, rng.randrange(most + 1))]) if rng.randrange(3) else permuted(rng, n, r, rng.randrange(most + 1))
     chosen = rng.randrange(8)
-    if chosen == 0:
-        return a, product(n, r, [some_pair(rng, n, r, 2)]), False
-    if chosen < 4:
-        return a, conjugated(n, r, some_pair(rng, n, r, rng.randrange(most)), a), True
-    return a, permuted(rng, n, r, rng.randrange(most + 1)), False
+    if chosen < 6:
+        b = conjugated(n, r, some_pair(rng, n, r, rng.randrange(most)), a)
+        return (a, b, True) if chosen < 4 else (a, exchanged(rng, n, r, b), False)
+    return a, product(n, r, [some_element(rng, n, r, rng.randrange(most + 1))]), False
 
 
 def all_pairs(n, r, most):
@@ -66,19 +73,20 @@ def ask(program, n, r, cases):
 def faults(n, r, place, case, answers, pairs):
     """What is wrong with the answers."""
     a, b, known = case
-    *orders, first, second, verdict, shown = answers
-    unbound = f"refused: name h{place}"
-    if "order infinite" in orders:
-        return [] if (verdict, shown) == ("refused: infinite", unbound) else ["an order is infinite"]
+    *orders, first, second, back, verdict, shown = answers
     if verdict == "not conjugate":
         wrong = ["they are conjugate"] if known or any(conjugated(n, r, h, a) == b for h in pairs) else []
-        return wrong if shown == unbound else wrong + ["the name is bound"]
+        if back != verdict:
+            return wrong + ["exchanged they are"]
+        return wrong if shown == f"refused: name h{place}" else wrong + ["the name is bound"]
     if not verdict.startswith("conjugate x"):
         return ["no verdict"]
     h = parse(verdict.removeprefix("conjugate "))
     wrong = [] if is_canonical(n, r, h) and conjugated(n, r, h, a) == b else ["it doesn't conjugate"]
-    if len(h) > len(first.split()) + len(second.split()):
+    if "order infinite" not in orders and len(h) > len(first.split()) + len(second.split()):
         wrong.append("it has too many rows")
+    if not back.startswith("conjugate x"):
+        wrong.append("exchanged they aren't conjugate")
     return wrong if shown == rows_text(h) else wrong + ["another element is bound"]
 
 
@@ -130,14 +138,14 @@ def main():
             wrong += 1
             print(f"conjugators: answers for {len(answered)} cases of {len(cases)}")
         for place, (case, answers) in enumerate(zip(cases, answered)):
-            yes += answers[4].startswith("conjugate x")
-            no += answers[4] == "not conjugate"
-            infinite += answers[4] == "refused: infinite"
+            yes += answers[5].startswith("conjugate x")
+            no += answers[5] == "not conjugate"
+            infinite += "order infinite" in answers
             found = faults(n, r, place, case, answers, pairs)
             wrong += found != []
             for fault in found:
                 print(f"conjugators: group {n} {r}, {rows_text(case[0])} and {rows_text(case[1])} are answered {answers}: {fault}")
-    print(f"conjugators: {yes} conjugate, {no} not, {infinite} of infinite order, {wrong} wrong")
+    print(f"conjugators: {yes} conjugate, {no} not, {infinite} with an infinite order, {wrong} wrong")
     return 1 if wrong else 0
 
 

@@ -8,8 +8,11 @@ import resource
 import subprocess
 import sys
 import tempfile
+from pathlib import Path
 
-from common.words import all_letters, behind, file_text, turned_words
+from common.words import all_letters, behind, file_text, some_pair, turned_words
+
+LIMITS = Path(__file__).resolve().parent.parent / "examples" / "limits"
 
 
 def words_of(length, expanded=0):
@@ -90,6 +93,78 @@ def combed(words, depth):
     return rows + [(word, word) for word in words[depth + 3:]]
 
 
+def placed(rows, words):
+    """These rows, the letters of a root in place of the root: each root is one of the words."""
+    return [tuple(behind(words[root - 1], z) for root, z in row) for row in rows]
+
+
+# Two atoms whose ends agree, each on two words, and three that are on one word.
+STRAIGHT = [((1, (1,)), (1, ())), ((1, (2,)), (2, (2,))), ((2, ()), (2, (1,)))]
+CROSSED = [((1, (1,)), (1, ())), ((1, (2, 1)), (2, (2, 2))), ((1, (2, 2)), (2, (2, 1))), ((2, ()), (2, (1,)))]
+SHORT = [((1, (1,)), (1, (1, 1))), ((1, (2, 1)), (1, (1, 2))), ((1, (2, 2)), (1, (2,)))]
+UNEVEN = [((1, (1,)), (1, (1, 1, 1))), ((1, (2, 1, 1)), (1, (1, 1, 2))), ((1, (2, 1, 2)), (1, (1, 2))), ((1, (2, 2)), (1, (2,)))]
+LONG = [((1, (1,)), (1, (1, 1, 2))), ((1, (2, 1)), (1, (1, 1, 1))), ((1, (2, 2, 1)), (1, (1, 2))), ((1, (2, 2, 2)), (1, (2,)))]
+
+
+def atoms_of(kinds, words):
+    """An atom of each of these kinds, one after another on the words, of which the others stay."""
+    rows = []
+    for kind in kinds:
+        roots = max(root for row in kind for root, _ in row)
+        rows += placed(kind, words[:roots])
+        words = words[roots:]
+    return rows + [(w, w) for w in words]
+
+
+def crossed(words):
+    """The same chain, but that what goes beside the last word is cut in two and exchanged."""
+    rows, last = chained(words), words[-1]
+    beside = behind(last, (2,))
+    word = next(u for u, v in rows if v == beside)
+    return [row for row in rows if row[1] != beside] + [(behind(word, (c,)), behind(beside, (3 - c,))) for c in (1, 2)]
+
+
+def lettered(length, turn):
+    """An attractor with so many letters 1, a repeller with as many, and words that go from one to the other, in
+    the same order, or moved on by one."""
+    ends = [((1, (1,)), (1, (1,) * (length + 1))), ((1, (2,) + (1,) * length), (1, (2,)))]
+    return ends + [((1, (2,) + (1,) * k + (2,)), (1, (1,) + (1,) * ((k + turn) % length) + (2,))) for k in range(length)]
+
+
+def conjugacy():
+    """The name of two elements, their rows, and what `conj` answers."""
+    rng = random.Random(600)
+    words = words_of(10, 976)
+    others = list(words)
+    rng.shuffle(others)
+    yield "2,000 atoms that are alike", atoms_of([SHORT] * 2_000, words), atoms_of([SHORT] * 2_000, others), "conjugate x1"
+    yield "such atoms, of which one is another", atoms_of([SHORT] * 2_000, words), atoms_of([LONG] + [SHORT] * 1_999, others), "not conjugate"
+    chain = words_of(12, 904)
+    middle = chain[1:-1]
+    rng.shuffle(middle)
+    yield "a chain of 4,998 words", chained(chain), chained([chain[0]] + middle + [chain[-1]]), "conjugate x1"
+    yield "a chain of 4,998 words, and one that is crossed at its end", chained(chain), crossed(chain), "not conjugate"
+    yield "1,000 first values that all fail", lettered(1_000, 0), lettered(1_000, 1), "not conjugate"
+    words, others = words_of(10, 176), words_of(10, 176)[::-1]
+    yield "300 atoms of each of two kinds with equal ends, in opposite orders", atoms_of([STRAIGHT] * 300 + [CROSSED] * 300, words), atoms_of([STRAIGHT] * 300 + [CROSSED] * 300, others), "conjugate x1"
+    yield "such atoms, of which one is of the other kind", atoms_of([STRAIGHT] * 300 + [CROSSED] * 300, words), atoms_of([STRAIGHT] * 299 + [CROSSED] * 301, others), "not conjugate"
+
+
+def powers():
+    """The name of two elements of G(n,1), n, their rows, the most seconds, and what `power` answers."""
+    words = words_of(7)
+    alike = atoms_of([STRAIGHT, CROSSED] * 28, words), atoms_of([STRAIGHT, CROSSED] * 28, words[::-1])
+    yield "212 rows and a conjugate", 2, *alike, 1, "power 1 1 x1"
+    yield "4,000 words whose rates have no ratio", 2, atoms_of([SHORT] * 2_000, words_of(10, 976)), atoms_of([UNEVEN] + [SHORT] * 1_999, words_of(10, 976)), 1, "power none"
+    words = [(1, z) for z in all_letters(3, 7)]
+    words = [behind(w, (c,)) for w in words[:527] for c in (1, 2, 3)] + words[527:]
+    odd = [length for length in range(1, 81, 2)]
+    primes = [p for p in odd[1:] if all(p % q for q in range(3, p, 2))]
+    more = [max(p ** k for k in range(1, 5) if p ** k <= 80) for p in primes]
+    others = odd + more + [1] * (3_241 - sum(odd) - sum(more))
+    yield "3,241 words on cycles of 1 to 80 and others by which no prime will do", 3, cycled(words, [*range(1, 81), 1]), cycled(words, others), 10, "power none"
+
+
 def asked():
     """The name of an element, its rows, and what the answers to questions on it begin with."""
     words = words_of(12, 904)
@@ -121,6 +196,19 @@ def asked():
     yield "a comb of 1,000 ponds, one in the other", combed(words_of(10), 1_000), {"ponds": "x1.11111111112 2 x1.22222121212;"}
 
 
+def large_examples():
+    """Examples of rows in lines, of products and of powers, with the last lines of their answers."""
+    for name, example in (
+        ("a line of 2,048 rows of a balanced basis, reduced", "balanced_basis"),
+        ("a line of 250 rows of a one-sided basis, reduced", "one_sided_basis"),
+        ("products, inverses and `equal` of elements of 3,500 rows, fifteen times", "products_of_many_rows"),
+        ("the 100th power of an element of 192 rows, the 1000th of one of 3 rows", "powers_of_many_rows"),
+    ):
+        folder = LIMITS / example
+        answers = (folder / "expected").read_text(encoding="ascii").splitlines()
+        yield name, (folder / "script").read_text(encoding="ascii"), {}, 2, answers[-1]
+
+
 def cases():
     """The name, the script, the files, the seconds, and what the last line of output begins with."""
     element = file_text(turned_words(13))
@@ -128,6 +216,7 @@ def cases():
     yield "65,536 short lines", "group 2 1\nlet a = x1>x1\n" + "show a\n" * 65_534, {}, 1, "x1>x1"
     yield "ten loads of 8,192 rows", "group 2 1\n" + "load a a.ht\n" * 10, {"a.ht": element}, 2, "load a 8192"
     yield f"a file of {len(most)} bytes", "group 2 1\nload a a.ht\n", {"a.ht": most}, 2, "load a 1"
+    yield from large_examples()
     basis = "group 2 1\nload a a.ht\nbasis a\n"
     yield "the basis of 4,700 words permuted", basis, {"a.ht": file_text(permuted(words_of(12, 604)))}, 1, "x1.1"
     for depth, most in (13, 0.5), (16, 3):
@@ -137,6 +226,16 @@ def cases():
     yield "a conjugator of two elements of 5,050 words on cycles of 1 to 100 words", "group 2 1\nload a a.ht\nload b b.ht\nconj h a b\n", cycles, 2, "conjugate x1"
     short = {"a.ht": cycles["a.ht"], "b.ht": file_text(cycled(words_of(12, 954), [1] * 50 + [2] * 2_500))}
     yield "two such elements of other lengths", "group 2 1\nload a a.ht\nload b b.ht\nconj h a b\n", short, 2, "not conjugate"
+    rng = random.Random(1974)
+    some = {name: file_text(some_pair(rng, 2, 1, 599)) for name in ("a.ht", "h.ht")}
+    yield "a conjugator of a random element of 600 rows and its conjugate by another", "group 2 1\nload a a.ht\nload h h.ht\nlet b = h^-1 a h\nconj k a b\n", some, 1, "conjugate x1"
+    for name, a, b, last in conjugacy():
+        yield f"conj of {name}", "group 2 1\nload a a.ht\nload b b.ht\nconj h a b\n", {"a.ht": file_text(a), "b.ht": file_text(b)}, 3, last
+    for name, n, a, b, most, last in powers():
+        yield f"power of {name}", f"group {n} 1\nload a a.ht\nload b b.ht\npower a b\n", {"a.ht": file_text(a, n), "b.ht": file_text(b, n)}, most, last
+    rows = atoms_of([STRAIGHT, CROSSED] * 28, words_of(7))
+    third = {"a.ht": file_text(rows), "h.ht": file_text(some_pair(random.Random(200), 2, 1, 199))}
+    yield "power of an element of 212 rows and a conjugate of its third power", "group 2 1\nload a a.ht\nload h h.ht\nlet b = h^-1 a^3 h\npower a b\n", third, 2, "power 3 1 x1"
     chain = {"a.ht": file_text(chained(words_of(12, 904)))}
     for both, last in ("x1.11111111111112 x1.2222222222222", "4999"), ("x1.2222222222222 x1.11111111111112", "-4999"), ("x1.1111111111111 x1.222222222222", "none"):
         yield f"share {last} of a chain of 4,998 words", f"group 2 1\nload a a.ht\nshare a {both}\n", chain, 0.5, f"share {last}"

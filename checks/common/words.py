@@ -14,10 +14,10 @@ def rows_text(rows):
     return ";".join(f"{text(u)}>{text(v)}" for u, v in rows)
 
 
-def file_text(rows):
-    """The element file of rows of G(2,1)."""
+def file_text(rows, n=2):
+    """The element file of rows of G(n,1)."""
     lines = "".join(rows_text([row]) + "\n" for row in rows)
-    return f"ht-element 1\ngroup 2 1\nrows {len(rows)}\n{lines}end\n"
+    return f"ht-element 1\ngroup {n} 1\nrows {len(rows)}\n{lines}end\n"
 
 
 def turned_words(length):

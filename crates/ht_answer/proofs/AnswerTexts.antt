@@ -11,7 +11,7 @@ use Rattle.ht_types.specs.declared.order.Order.TheVariants as order
 use Rattle.ht_types.specs.declared.kind.Kind.{Kind}
 use Rattle.ht_types.specs.declared.sharing.Pond.{Pond}
 use Rattle.ht_answer.specs.declared.answer.Answer.{Answer}
-use Rattle.ht_answer.specs.declared.answer.Answer.TheVariants.{Blank, Group, Pair, Let, Load, Equal, Basis, Order, Types, Profile, Parts, Conjugate, NotKept, NotConjugate, Ponds, Share, Refused}
+use Rattle.ht_answer.specs.declared.answer.Answer.TheVariants.{Blank, Group, Pair, Let, Load, Equal, Basis, Order, Types, Profile, Parts, Conjugate, NotKept, NotConjugate, Ponds, Share, Powers, NoPowers, Refused}
 use Rattle.ht_answer.specs.declared.answer.Refusal.{Refusal}
 use Rattle.ht_answer.specs.declared.answer.Refusal.TheVariants as refusal
 use Rattle.ht_answer.specs.Answers.{IsRefusal, number_line, words_text, answer_text}
@@ -39,7 +39,6 @@ refusal_begins refusal.Wide = (codes "wide\n", refl)
 refusal_begins (refusal.Large rows letters) = (codes "large " ++ decimal rows ++ number_line (codes " ") letters, refl)
 refusal_begins (refusal.Word place) = (codes "word " ++ decimal place ++ codes "\n", refl)
 refusal_begins (refusal.Budget name) = (codes "budget " ++ name ++ codes "\n", refl)
-refusal_begins refusal.Infinite = (codes "infinite\n", refl)
 refusal_begins (refusal.Above place) = (codes "above " ++ decimal place ++ codes "\n", refl)
 
 -- lists with other first items are others
@@ -136,6 +135,8 @@ begins_refused NotConjugate rest e = other_head 110 114 _ _ (λ same. absurd (om
 begins_refused (Ponds ponds) rest e = ponds_begin ponds (codes "efused: " ++ rest) e
 begins_refused (Share (Some k)) rest e = other_head 115 114 _ _ (λ same. absurd (omega arith)) e
 begins_refused (Share None) rest e = other_head 115 114 _ _ (λ same. absurd (omega arith)) e
+begins_refused (Powers i j by) rest e = other_head 112 114 _ _ (λ same. absurd (omega arith)) e
+begins_refused NoPowers rest e = other_head 112 114 _ _ (λ same. absurd (omega arith)) e
 begins_refused (Refused why) rest e = tt
 
 -- `refusal_begins`, of answers
@@ -156,6 +157,8 @@ refusal_text_begins (NotKept letters rows) h = absurd h
 refusal_text_begins NotConjugate h = absurd h
 refusal_text_begins (Ponds ponds) h = absurd h
 refusal_text_begins (Share shared) h = absurd h
+refusal_text_begins (Powers i j by) h = absurd h
+refusal_text_begins NoPowers h = absurd h
 refusal_text_begins (Refused why) h = refusal_begins why
 
 -- the refusals are the answers whose texts begin with `refused: `

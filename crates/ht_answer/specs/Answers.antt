@@ -11,11 +11,12 @@
 --     refusal_text why      the line of a refusal
 --     answer_text answer    the answer's line, with the line feed; nothing for a blank line
 use Rattle.std.specs.Prelude.{◌≢◌, true, false, ℕ, List, [], ◌∷◌, ◌++◌, All, length, codes, decimal}
+use Rattle.std.specs.Fmt.{signed_decimal}
 use Rattle.std.specs.List.{flat_map}
 use Rattle.ht_word.specs.declared.word.Word.{Word}
 use Rattle.ht_pair.specs.declared.row.Row.{Row}
 use Rattle.ht_answer.specs.declared.answer.Answer.{Answer}
-use Rattle.ht_answer.specs.declared.answer.Answer.TheVariants.{Blank, Group, Pair, Let, Load, Equal, Basis, Order, Types, Profile, Parts, Conjugate, NotKept, NotConjugate, Ponds, Share, Refused}
+use Rattle.ht_answer.specs.declared.answer.Answer.TheVariants.{Blank, Group, Pair, Let, Load, Equal, Basis, Order, Types, Profile, Parts, Conjugate, NotKept, NotConjugate, Ponds, Share, Powers, NoPowers, Refused}
 use Rattle.ht_answer.specs.declared.answer.Refusal.{Refusal}
 use Rattle.ht_answer.specs.declared.answer.Refusal.TheVariants as refusal
 use Rattle.ht_text.specs.Texts.{HasText, HasRowsText, word_text, rows_text}
@@ -40,6 +41,8 @@ IsRefusal (NotKept letters rows) = ⊥
 IsRefusal NotConjugate = ⊥
 IsRefusal (Ponds ponds) = ⊥
 IsRefusal (Share shared) = ⊥
+IsRefusal (Powers i j by) = ⊥
+IsRefusal NoPowers = ⊥
 IsRefusal (Refused why) = Unit {0}
 
 abbrev pub HasWordsText : List Word → Type 0
@@ -62,6 +65,8 @@ HasAnswerText (NotKept letters rows) = HasRowsText rows
 HasAnswerText NotConjugate = Unit {0}
 HasAnswerText (Ponds ponds) = All HasPondText ponds
 HasAnswerText (Share shared) = Unit {0}
+HasAnswerText (Powers i j by) = HasRowsText by
+HasAnswerText NoPowers = Unit {0}
 HasAnswerText (Refused why) = Unit {0}
 
 abbrev pub number_line : List ℕ → ℕ → List ℕ
@@ -95,7 +100,6 @@ refusal_text refusal.Wide = codes "refused: wide\n"
 refusal_text (refusal.Large rows letters) = codes "refused: large " ++ decimal rows ++ number_line (codes " ") letters
 refusal_text (refusal.Word place) = number_line (codes "refused: word ") place
 refusal_text (refusal.Budget name) = name_line (codes "refused: budget ") name
-refusal_text refusal.Infinite = codes "refused: infinite\n"
 refusal_text (refusal.Above place) = number_line (codes "refused: above ") place
 
 abbrev pub answer_text : Answer → List ℕ
@@ -116,4 +120,6 @@ answer_text (NotKept letters rows) = codes "conjugate not kept " ++ decimal (len
 answer_text NotConjugate = codes "not conjugate\n"
 answer_text (Ponds ponds) = ponds_text ponds ++ codes "\n"
 answer_text (Share shared) = share_line shared
+answer_text (Powers i j by) = codes "power " ++ signed_decimal i ++ codes " " ++ signed_decimal j ++ rows_line (codes " ") by
+answer_text NoPowers = codes "power none\n"
 answer_text (Refused why) = refusal_text why

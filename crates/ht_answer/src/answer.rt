@@ -42,6 +42,10 @@ pub enum Answer {
     Ponds(Ponds),
     /// To `share`: the number that the two words share an orbit by.
     Share(Option<i128>),
+    /// To `power`: `by` conjugates the i-th power of the first into the j-th of the second.
+    Powers { i: i128, j: i128, by: Rows },
+    /// To `power`: no power of the first but the identity is conjugate to a power of the second.
+    NoPowers,
     /// The line changed nothing.
     Refused(Refusal),
 }
@@ -70,7 +74,8 @@ pub enum Refusal {
     RowsFrom,
     /// The `to` words of the rows aren't a basis.
     RowsTo,
-    /// An exponent of the line is more than 2^127-1 in absolute value.
+    /// An exponent of the line, the order asked for, or a number that the powers' answer asks for, is
+    /// more than 2^127-1 in absolute value.
     Wide,
     /// An element that the line makes has more than 8,192 rows or a word of more than 1,024
     /// letters: the first such one's number of rows, and the letters of its longest word.
@@ -79,8 +84,6 @@ pub enum Refusal {
     Word(u8),
     /// The quasinormal basis of the element of this name takes more expansions than the budget has.
     Budget(Name),
-    /// Conjugacy isn't decided where an infinite part isn't empty.
-    Infinite,
     /// The word of this number on the line, from 1, is the first that isn't under the quasinormal
     /// basis of the element.
     Above(u8),

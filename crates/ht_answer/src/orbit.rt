@@ -36,7 +36,7 @@ fn write_shared(k: i128, out: &mut Vec<u8>) -> Result<(), NoMemory>
 }
 
 // Appends the decimal digits of a number, behind a `-` where it is negative.
-fn write_integer(n: i128, out: &mut Vec<u8>) -> Result<(), NoMemory>
+pub(crate) fn write_integer(n: i128, out: &mut Vec<u8>) -> Result<(), NoMemory>
     ensures ok { OnOk result (out.new.items ≡ out.old.items ++ signed_decimal n) }
     ensures err { OnErr result (AddsFront out.old.items out.new.items (signed_decimal n)) }
 {

@@ -1,5 +1,6 @@
 //! The texts of answers.
 ghost use Rattle.std.specs.Prelude.{◌≡◌, ◌++◌, OnOk, OnErr, codes, decimal};
+ghost use Rattle.std.specs.Fmt.{signed_decimal};
 ghost use Rattle.std.specs.List.{flat_map};
 ghost use Rattle.ht_text.specs.Texts.{HasText, HasRowsText};
 ghost use Rattle.ht_text.specs.Writes.{AddsFront};
@@ -7,7 +8,7 @@ ghost use Rattle.ht_answer.specs.Answers.{HasWordsText, HasAnswerText, number_li
 ghost use Rattle.ht_answer.specs.OrderTexts.{order_line};
 
 use crate::answer::{Answer, Refusal};
-use crate::orbit::{print_ponds, print_share};
+use crate::orbit::{print_ponds, print_share, write_integer};
 use crate::profile::print_profile;
 use crate::types::print_types;
 use ht_pair::Rows;
@@ -39,6 +40,8 @@ pub fn print(answer: &Answer, out: &mut Vec<u8>) -> Result<(), NoMemory>
         Answer::NotConjugate => write_text(b"not conjugate\n", out),
         Answer::Ponds(ponds) => print_ponds(ponds, out),
         Answer::Share(shared) => print_share(*shared, out),
+        Answer::Powers { i, j, by } => print_powers(*i, *j, by, out),
+        Answer::NoPowers => write_text(b"power none\n", out),
         Answer::Refused(why) => print_refusal(why, out),
     }
 }
@@ -157,6 +160,27 @@ fn print_not_kept(letters: usize, rows: &Rows, out: &mut Vec<u8>) -> Result<(), 
     print_rows(b" ", rows, out)
 }
 
+// Appends the answer of two powers that are conjugate.
+fn print_powers(i: i128, j: i128, by: &Rows, out: &mut Vec<u8>) -> Result<(), NoMemory>
+    requires { HasRowsText by.now }
+    ensures ok { OnOk result (out.new.items ≡ out.old.items ++ answer_text (Answer.Powers i j by.now)) }
+    ensures err { OnErr result (AddsFront out.old.items out.new.items (answer_text (Answer.Powers i j by.now))) }
+{
+    write_exponents(i, j, out)?;
+    print_rows(b" ", by, out)
+}
+
+// Appends the beginning of this answer: `power` and the two exponents.
+fn write_exponents(i: i128, j: i128, out: &mut Vec<u8>) -> Result<(), NoMemory>
+    ensures ok { OnOk result (out.new.items ≡ out.old.items ++ (codes "power " ++ signed_decimal i ++ codes " " ++ signed_decimal j)) }
+    ensures err { OnErr result (AddsFront out.old.items out.new.items (codes "power " ++ signed_decimal i ++ codes " " ++ signed_decimal j)) }
+{
+    out.extend_from_slice(b"power ")?;
+    write_integer(i, out)?;
+    out.push(b' ')?;
+    write_integer(j, out)
+}
+
 // Appends the text of a refusal.
 fn print_refusal(why: &Refusal, out: &mut Vec<u8>) -> Result<(), NoMemory>
     ensures ok { OnOk result (out.new.items ≡ out.old.items ++ refusal_text why.now) }
@@ -177,7 +201,6 @@ fn print_refusal(why: &Refusal, out: &mut Vec<u8>) -> Result<(), NoMemory>
         Refusal::Large { rows, letters } => write_numbers(b"refused: large ", *rows, *letters, out),
         Refusal::Word(place) => write_line(b"refused: word ", *place as usize, out),
         Refusal::Budget(name) => write_named(b"refused: budget ", name, out),
-        Refusal::Infinite => write_text(b"refused: infinite\n", out),
         Refusal::Above(place) => write_line(b"refused: above ", *place as usize, out),
     }
 }

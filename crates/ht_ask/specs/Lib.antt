@@ -4,4 +4,3 @@ pub mod Questions
 pub mod ShownImages
 pub mod PartAnswers
 pub mod ShareAnswers
-pub mod Conjugations

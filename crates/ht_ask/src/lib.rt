@@ -20,4 +20,4 @@ mod verdict;
 pub use parts::{PartsFault, parts_of};
 pub use question::{Question, answer_of, image_rows};
 pub use share::share_of;
-pub use verdict::{VerdictFault, verdict_of};
+pub use verdict::verdict_of;

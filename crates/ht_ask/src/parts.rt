@@ -4,10 +4,10 @@ ghost use Rattle.ht_ask.specs.declared.parts.PartsFault.TheVariants as fault;
 ghost use Rattle.ht_pair.specs.Budgets.{IsOverBudget};
 ghost use Rattle.ht_ask.specs.PartAnswers.{ArePartsOf, HasLargePart};
 
-use crate::typed::typed_of;
 use ht_pair::{Element, OpFault};
 use ht_parts::parts;
 use ht_quasi::QuasiFault;
+use ht_types::typed_within;
 use std::alloc::Global;
 use thiserror::Error;
 
@@ -40,7 +40,7 @@ pub fn parts_of(
     ensures over { IsErrOf result fault.Budget → IsOverBudget element.now.shape budget element.now.rows }
     ensures large { (rows letters : ℕ) → IsErrOf result (fault.Large rows letters) → HasLargePart element.now.shape budget element.now.rows rows letters }
 {
-    match typed_of(alloc, element, budget) {
+    match typed_within(alloc, element, budget) {
         Ok(typed) => match parts(alloc, &typed) {
             Ok((first, second)) => {
                 first.keeps_limits();

@@ -5,12 +5,11 @@ ghost use Rattle.ht_answer.specs.Answers.{HasAnswerText};
 ghost use Rattle.ht_pair.specs.Budgets.{IsOverBudget};
 ghost use Rattle.ht_ask.specs.ShareAnswers.{TellsShare};
 
-use crate::typed::typed_of;
 use ht_answer::{Answer, Refusal};
 use ht_pair::{Basis, Element};
 use ht_quasi::QuasiFault;
 use ht_share::Sharer;
-use ht_types::{Sharing, Typed};
+use ht_types::{Sharing, Typed, typed_within};
 use ht_word::Word;
 use std::alloc::Global;
 
@@ -33,7 +32,7 @@ pub fn share_of(
     ensures text { IfOk result HasAnswerText }
     ensures over { IsErrOf result QuasiFault.Budget → IsOverBudget element.now.shape budget element.now.rows }
 {
-    let typed = typed_of(alloc, element, budget)?;
+    let typed = typed_within(alloc, element, budget)?;
     if !is_under(&typed, first) {
         return Ok(Answer::Refused(Refusal::Above(1)));
     }

@@ -13,22 +13,10 @@ use ht_answer::{Answer, Refusal};
 use ht_cycles::profile;
 use ht_pair::Element;
 use ht_parts::order;
-use ht_quasi::{QuasiFault, quasinormal};
+use ht_quasi::QuasiFault;
 use ht_share::ponds;
-use ht_types::{Order, Typed, types};
+use ht_types::{Order, Typed, typed_within};
 use std::alloc::Global;
-
-// The element with its quasinormal basis and the kinds of its words; `Budget` exactly where the basis
-// takes more expansions.
-pub(crate) fn typed_of(alloc: Global, element: &Element, budget: u32) -> Result<Typed, QuasiFault>
-    requires { budget ≤ 65536 }
-    ensures typed { IfOk result (λ typed. (typed.element ≡ element.now) × IsTyped element.now typed.quasi typed.kinds) }
-    ensures within { IfOk result (λ typed. TakesAtMost element.now.shape typed.quasi.basis.words budget) }
-    ensures over { IsErrOf result QuasiFault.Budget → IsOverBudget element.now.shape budget element.now.rows }
-{
-    let quasi = quasinormal(alloc, element, budget)?;
-    Ok(types(alloc, element, quasi)?)
-}
 
 // The order of the element.
 pub(crate) fn told_order(
@@ -41,7 +29,7 @@ pub(crate) fn told_order(
     ensures text { IfOk result HasAnswerText }
     ensures over { IsErrOf result QuasiFault.Budget → IsOverBudget element.now.shape budget element.now.rows }
 {
-    let typed = typed_of(alloc, element, budget)?;
+    let typed = typed_within(alloc, element, budget)?;
     Ok(answer_to_order(order(&typed)))
 }
 
@@ -67,7 +55,7 @@ pub(crate) fn told_types(
     ensures text { IfOk result HasAnswerText }
     ensures over { IsErrOf result QuasiFault.Budget → IsOverBudget element.now.shape budget element.now.rows }
 {
-    let typed = typed_of(alloc, element, budget)?;
+    let typed = typed_within(alloc, element, budget)?;
     let words = copy_words(alloc, typed.quasi().basis.words().as_slice())?;
     let kinds = typed.into_kinds();
     Ok(Answer::Types { words, kinds })
@@ -84,7 +72,7 @@ pub(crate) fn told_profile(
     ensures text { IfOk result HasAnswerText }
     ensures over { IsErrOf result QuasiFault.Budget → IsOverBudget element.now.shape budget element.now.rows }
 {
-    let typed = typed_of(alloc, element, budget)?;
+    let typed = typed_within(alloc, element, budget)?;
     let profile = profile(alloc, &typed)?;
     Ok(Answer::Profile(profile))
 }
@@ -100,7 +88,7 @@ pub(crate) fn told_ponds(
     ensures text { IfOk result HasAnswerText }
     ensures over { IsErrOf result QuasiFault.Budget → IsOverBudget element.now.shape budget element.now.rows }
 {
-    let typed = typed_of(alloc, element, budget)?;
+    let typed = typed_within(alloc, element, budget)?;
     let ponds = ponds(alloc, &typed)?;
     Ok(Answer::Ponds(ponds))
 }

@@ -1,6 +1,5 @@
 -- The steps of a line that asks whether two elements are conjugate.
-use Rattle.std.proofs.Common.{◌≡◌, ◌≢◌, ◌∙◌, ℕ, List, [], ◌∷◌, inl, inr, Option, Some, None, IsSome, refl, sym, ap, subst}
-use Rattle.std.proofs.lemmas.List.Elements.{All-cons}
+use Rattle.std.proofs.Common.{◌≡◌, ◌∙◌, ℕ, List, Option, Some, IsSome, sym, ap, subst}
 use Rattle.ht_word.specs.declared.shape.Shape.{Shape}
 use Rattle.ht_pair.specs.declared.row.Row.{Row}
 use Rattle.ht_pair.specs.declared.verdict.Verdict.{Verdict}
@@ -10,15 +9,12 @@ use Rattle.ht_script.specs.declared.line.Line.{Line}
 use Rattle.ht_script.specs.declared.line.Line.TheVariants as line
 use Rattle.ht_answer.specs.declared.answer.Answer.TheVariants.{Conjugate, NotConjugate, Refused}
 use Rattle.ht_answer.specs.declared.answer.Refusal.TheVariants as refusal
-use Rattle.ht_pair.specs.Budgets.{FitsBudget, IsOverBudget}
-use Rattle.ht_ask.specs.Conjugations.{IsDecided, IsUndecided}
-use Rattle.ht_calc.specs.Names.{rows_by_name, bound, bind, AreBound, AreOfShape, HasRoom}
+use Rattle.ht_pair.specs.Decisions.{IsDecided}
+use Rattle.ht_calc.specs.Names.{rows_by_name, bound, bind, AreOfShape, HasRoom}
 use Rattle.ht_calc.specs.States.{State}
-use Rattle.ht_calc.specs.Steps.{AreAsked, Does, before_group, unbound, no_room, over_budget, conjugator_bound, not_conjugate, undecided}
-use Rattle.ht_calc.proofs.NameLaws.{rows_of, bound_rows, bound_of_shape, same_room, first_unbound, second_unbound, only_bound, no_room_for}
-
-both_bound : {T : Type 0} (names : List (List ℕ × T)) (first second : List ℕ) (one other : T) → bound names first ≡ Some one → bound names second ≡ Some other → AreBound names (first ∷ second ∷ [])
-both_bound names first second one other is also = All-cons (λ name. bound names name ≢ None) first (second ∷ []) (λ none. cc) (only_bound names second other also)
+use Rattle.ht_calc.specs.Steps.{AreAsked, Does, no_room, conjugator_bound, not_conjugate}
+use Rattle.ht_calc.proofs.NameLaws.{rows_of, bound_rows, bound_of_shape, same_room, no_room_for}
+use Rattle.ht_calc.proofs.TwoNames.{both_bound}
 
 -- the elements that the names are bound to are asked
 pub told_asked : (shape : Option Shape) (budget : ℕ) (names : List (List ℕ × ElementValue)) (name first second : List ℕ) (one other : ElementValue) → AreOfShape shape names → bound names first ≡ Some one → bound names second ≡ Some other → HasRoom names name
@@ -35,31 +31,11 @@ module _ (told old : State) (name first second : List ℕ) (same : told ≡ old)
   abbrev asks : Line
   asks = line.Conj name first second
 
-  pub conj_early : told.shape ≡ None → Does old asks (Refused refusal.Group) old
-  conj_early none = subst (λ (s : State). Does s asks (Refused refusal.Group) s) same (before_group asks tt none)
-
-  pub conj_first_none : IsSome told.shape → bound told.names first ≡ None → Does old asks (Refused (refusal.Name first)) old
-  conj_first_none some none = subst (λ (s : State). Does s asks (Refused (refusal.Name first)) s) same (unbound asks first some (first_unbound told.names first (second ∷ []) none))
-
-  pub conj_second_none : (p : List Row) → IsSome told.shape → bound told.names first ≡ Some p → bound told.names second ≡ None → Does old asks (Refused (refusal.Name second)) old
-  conj_second_none p some found none = subst (λ (s : State). Does s asks (Refused (refusal.Name second)) s) same (unbound asks second some (second_unbound told.names first second p found none))
-
   pub conj_no_room : (p q : List Row) → IsSome told.shape → bound told.names first ≡ Some p → bound told.names second ≡ Some q → ¬ HasRoom told.names name → Does old asks (Refused refusal.Names) old
   conj_no_room p q some found also full =
       subst (λ (s : State). Does s asks (Refused refusal.Names) s) same (no_room asks some (both_bound told.names first second p q found also) (no_room_for told.names name full))
 
   module _ (p q : List Row) (shape : Shape) (asked : AreAsked told name first second shape p q) where
-    pub conj_first_over : IsOverBudget shape told.budget p → Does old asks (Refused (refusal.Budget first)) old
-    conj_first_over over = subst (λ (s : State). Does s asks (Refused (refusal.Budget first)) s) same
-        (over_budget asks first shape asked.shape_is tt (both_bound told.names first second p q asked.first_is asked.second_is) (asked.room, tt) (p, asked.first_is, inl (over, refl)))
-
-    pub conj_second_over : FitsBudget shape told.budget p → IsOverBudget shape told.budget q → Does old asks (Refused (refusal.Budget second)) old
-    conj_second_over fits over = subst (λ (s : State). Does s asks (Refused (refusal.Budget second)) s) same
-        (over_budget asks second shape asked.shape_is tt (both_bound told.names first second p q asked.first_is asked.second_is) (asked.room, tt) (p, asked.first_is, inr (fits, (q, asked.second_is, inl (over, refl)))))
-
-    pub conj_undecided : IsUndecided shape told.budget p q → Does old asks (Refused refusal.Infinite) old
-    conj_undecided infinite = subst (λ (s : State). Does s asks (Refused refusal.Infinite) s) same (undecided name first second p q shape asked infinite)
-
     pub conj_apart : IsDecided shape told.budget p q verdict.NotConjugate → Does old asks NotConjugate old
     conj_apart decided = subst (λ (s : State). Does s asks NotConjugate s) same (not_conjugate name first second p q shape asked decided)
 

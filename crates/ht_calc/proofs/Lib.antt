@@ -12,6 +12,9 @@ pub mod Standing
 mod QuestionLaws
 pub mod PartSteps
 pub mod ShareSteps
+pub mod TwoNames
+pub mod PowerBudgets
+pub mod PowerSteps
 pub mod ConjugatorLaws
 pub mod ConjugatorSteps
 pub mod StepLaws

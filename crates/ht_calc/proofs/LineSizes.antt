@@ -17,7 +17,7 @@ use Rattle.ht_pair.proofs.BasisSizes.{root_once, count_roots, few_roots, all_let
 use Rattle.ht_pair.proofs.SizeLaws.{canonical_small}
 use Rattle.ht_text.specs.Texts.{HasText, HasRowText, HasRowsText, letter_code, letters_text, word_text, row_text, ended_text, rows_text}
 use Rattle.ht_script.specs.declared.line.Line.{Line}
-use Rattle.ht_script.specs.declared.line.Line.TheVariants.{Blank, Group, Reduce, LetRows, LetProduct, Show, Equal, Image, Load, Basis, Order, Types, Profile, Parts, Conj, Ponds, Share}
+use Rattle.ht_script.specs.declared.line.Line.TheVariants.{Blank, Group, Reduce, LetRows, LetProduct, Show, Equal, Image, Load, Basis, Order, Types, Profile, Parts, Conj, Ponds, Share, Power}
 use Rattle.ht_script.specs.Tokens.{IsSpaces, Is, IsSpaced, ◌▸◌}
 use Rattle.ht_script.specs.Lines.{AreRows, IsNamed, IsLine}
 use Rattle.ht_script.specs.Names.{IsFileName}
@@ -139,6 +139,7 @@ short_rows bytes (Parts periodic infinite whole) is few = tt
 short_rows bytes (Conj name first second) is few = tt
 short_rows bytes (Ponds name) is few = tt
 short_rows bytes (Share name first second) is few = tt
+short_rows bytes (Power first second) is few = tt
 
 -- a line that loads names a file
 pub names_file : (bytes : List ℕ) (line : Line) → IsLine bytes line → NamesFile line
@@ -159,3 +160,4 @@ names_file bytes (Parts periodic infinite whole) is = tt
 names_file bytes (Conj name first second) is = tt
 names_file bytes (Ponds name) is = tt
 names_file bytes (Share name first second) is = tt
+names_file bytes (Power first second) is = tt

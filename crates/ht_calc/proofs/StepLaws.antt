@@ -17,7 +17,7 @@ use Rattle.ht_calc.specs.Loads.{Loads, loaded, no_file, file_refused}
 use Rattle.ht_calc.specs.Names.{bind, HasRoom}
 use Rattle.ht_calc.specs.Products.{Term, StandFor, IsLargeProduct}
 use Rattle.ht_calc.specs.States.{State}
-use Rattle.ht_calc.specs.Steps.{Does, Step, blank, group_is_set, group_refused, before_group, unbound, no_room, over_budget, reduced, reduce_refused, let_bound, let_refused, product_bound, product_wide, product_large, questioned, parts_bound, parts_large, conjugator_bound, conjugator_not_kept, not_conjugate, undecided, compared, image_shown, image_foreign, share_told, by_line, by_file, no_line}
+use Rattle.ht_calc.specs.Steps.{Does, Step, blank, group_is_set, group_refused, before_group, unbound, no_room, over_budget, reduced, reduce_refused, let_bound, let_refused, product_bound, product_wide, product_large, questioned, parts_bound, parts_large, conjugator_bound, conjugator_not_kept, not_conjugate, compared, image_shown, image_foreign, share_told, powers_told, powers_large, powers_wide, by_line, by_file, no_line}
 use Rattle.ht_calc.proofs.Fetching.{nothing_asked, none_made}
 
 -- a line that is refused changes nothing
@@ -42,11 +42,13 @@ refused_keeps old _ _ _ (parts_large periodic infinite whole p rows letters shap
 refused_keeps old _ _ _ (conjugator_bound name first second p q rows shape asked decided element) is = absurd is
 refused_keeps old _ _ _ (conjugator_not_kept name first second p q rows letters shape asked decided large) is = absurd is
 refused_keeps old _ _ _ (not_conjugate name first second p q shape asked decided) is = absurd is
-refused_keeps old _ _ _ (undecided name first second p q shape asked infinite) is = refl
 refused_keeps old _ _ _ (compared first second p q shape alike some first_is second_is told) is = absurd is
 refused_keeps old _ _ _ (image_shown name word p L shape some found of_shape image) is = absurd is
 refused_keeps old _ _ _ (image_foreign name word p shape some found foreign) is = refl
 refused_keeps old _ _ _ (share_told name first second p shape answer some found tells) is = refl
+refused_keeps old _ _ _ (powers_told first second p q shape verdict some first_is second_is rule true_verdict) is = refl
+refused_keeps old _ _ _ (powers_large first second p q rows letters shape some first_is second_is rule) is = refl
+refused_keeps old _ _ _ (powers_wide first second p q shape some first_is second_is rule) is = refl
 
 -- nor does a file
 refused_load_keeps : (old : State) (name : List ℕ) (gives : Option (List ℕ)) (answer : Answer) (new : State) → Loads old name gives answer new → IsRefusal answer → new ≡ old

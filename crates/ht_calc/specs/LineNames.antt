@@ -9,7 +9,7 @@ use Rattle.std.specs.Prelude.{ℕ, List, [], ◌∷◌, ⊤}
 use Rattle.ht_word.specs.declared.shape.Shape.{Shape}
 use Rattle.ht_word.specs.Words.{IsWordOf}
 use Rattle.ht_script.specs.declared.line.Line.{Line}
-use Rattle.ht_script.specs.declared.line.Line.TheVariants.{Blank, Group, Reduce, LetRows, LetProduct, Show, Equal, Image, Load, Basis, Order, Types, Profile, Parts, Conj, Ponds, Share}
+use Rattle.ht_script.specs.declared.line.Line.TheVariants.{Blank, Group, Reduce, LetRows, LetProduct, Show, Equal, Image, Load, Basis, Order, Types, Profile, Parts, Conj, Ponds, Share, Power}
 use Rattle.ht_ask.specs.declared.question.Question.{Question}
 use Rattle.ht_ask.specs.declared.question.Question.TheVariants as question
 use Rattle.ht_calc.specs.Products.{names_of}
@@ -32,6 +32,7 @@ reads (Parts periodic infinite whole) = whole ∷ []
 reads (Conj name first second) = first ∷ second ∷ []
 reads (Ponds name) = name ∷ []
 reads (Share name first second) = name ∷ []
+reads (Power first second) = first ∷ second ∷ []
 
 abbrev pub binds : Line → List (List ℕ)
 binds Blank = []
@@ -51,6 +52,7 @@ binds (Parts periodic infinite whole) = periodic ∷ infinite ∷ []
 binds (Conj name first second) = name ∷ []
 binds (Ponds name) = []
 binds (Share name first second) = []
+binds (Power first second) = []
 
 abbrev pub asks : Question → List ℕ → Line
 asks question.Show name = Show name
@@ -74,4 +76,5 @@ MeetsBudget shape (Parts periodic infinite whole) = ⊤
 MeetsBudget shape (Conj name first second) = ⊤
 MeetsBudget shape (Ponds name) = ⊤
 MeetsBudget shape (Share name first second) = IsWordOf shape first × IsWordOf shape second
+MeetsBudget shape (Power first second) = ⊤
 MeetsBudget shape _ = ⊥

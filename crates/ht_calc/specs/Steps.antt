@@ -1,9 +1,10 @@
 -- One step of the calculator: what a line is answered, and what the session remembers then.
 -- Where several refusals fit, the first of this order is given: syntax, group, name, names, word, file,
--- rows, budget, infinite, wide, large, above.
+-- rows, budget, wide, large, above. For powers, wide and large come in the order of the power rule.
 --
 --     IsRowsRefusal shape rows why       the refusal says why the rows are no element
 --     AreAsked old name first second shape p q   the group is set, first is bound to p and second to q, and there is room for the name
+--     power_answer verdict               the answer that tells conjugate powers, or that there are none
 --     Does old line answer new           from the state old this line gets this answer and leads to new
 --     Step old bytes made answer new     the same for the bytes of a line, which may be no line, and the fetches that it made: one where a load has its group and room for its name, else none
 use Rattle.std.specs.Prelude.{◌≡◌, ◌⊎◌, ◌↔◌, ℕ, pos, suc, List, [], ◌∷◌, length, Bool, IsTrue, Option, Some, None, IsSome}
@@ -19,17 +20,22 @@ use Rattle.ht_pair.specs.Images.{Entry, IsImage}
 use Rattle.ht_pair.specs.RowsFaults.{IsFirstForeign, IsFromFault, IsToFault}
 use Rattle.ht_pair.specs.Sizes.{IsLarge}
 use Rattle.ht_pair.specs.declared.verdict.Verdict.TheVariants as verdict
+use Rattle.ht_pair.specs.declared.verdict.PowerVerdict.{PowerVerdict}
+use Rattle.ht_pair.specs.declared.verdict.PowerVerdict.TheVariants as power_verdict
+use Rattle.ht_pair.specs.PowerRule.{PowerRule}
+use Rattle.ht_pair.specs.PowerTrials.{TooLarge, TooWide}
+use Rattle.ht_pair.specs.PowerVerdicts.{IsPowerVerdict, rule_answer}
 use Rattle.ht_text.specs.Fronts.{IsLongestFront}
 use Rattle.ht_script.specs.declared.line.Line.{Line}
 use Rattle.ht_script.specs.declared.line.Line.TheVariants as line
 use Rattle.ht_script.specs.declared.factor.Factor.{Factor}
 use Rattle.ht_script.specs.Lines.{IsLine, IsNoLine, IsLineText}
 use Rattle.ht_answer.specs.declared.answer.Answer.{Answer}
-use Rattle.ht_answer.specs.declared.answer.Answer.TheVariants.{Blank, Group, Pair, Let, Equal, Parts, Conjugate, NotKept, NotConjugate, Refused}
+use Rattle.ht_answer.specs.declared.answer.Answer.TheVariants.{Blank, Group, Pair, Let, Equal, Parts, Conjugate, NotKept, NotConjugate, Powers, NoPowers, Refused}
 use Rattle.ht_answer.specs.declared.answer.Refusal.{Refusal}
 use Rattle.ht_answer.specs.declared.answer.Refusal.TheVariants as refusal
 use Rattle.ht_ask.specs.declared.question.Question.{Question}
-use Rattle.ht_ask.specs.Conjugations.{IsDecided, IsUndecided}
+use Rattle.ht_pair.specs.Decisions.{IsDecided}
 use Rattle.ht_ask.specs.PartAnswers.{ArePartsOf, HasLargePart}
 use Rattle.ht_ask.specs.Questions.{Tells}
 use Rattle.ht_ask.specs.ShareAnswers.{TellsShare}
@@ -56,7 +62,6 @@ IsRowsRefusal shape rows refusal.Wide = ⊥
 IsRowsRefusal shape rows (refusal.Large count letters) = ⊥
 IsRowsRefusal shape rows (refusal.Word place) = ⊥
 IsRowsRefusal shape rows (refusal.Budget name) = ⊥
-IsRowsRefusal shape rows refusal.Infinite = ⊥
 IsRowsRefusal shape rows (refusal.Above place) = ⊥
 
 pub record AreAsked (old : State) (name first second : List ℕ) (shape : Shape) (p q : List Row) : Type 0 where
@@ -64,6 +69,10 @@ pub record AreAsked (old : State) (name first second : List ℕ) (shape : Shape)
   pub first_is : bound old.names first ≡ Some p
   pub second_is : bound old.names second ≡ Some q
   pub room : HasRoom old.names name
+
+abbrev pub power_answer : PowerVerdict → Answer
+power_answer (power_verdict.Powers i j by) = Powers i j by
+power_answer power_verdict.None = NoPowers
 
 pub data Does (old : State) : Line → Answer → State → Type 0 where
   blank : Does old line.Blank Blank old
@@ -97,7 +106,6 @@ pub data Does (old : State) : Line → Answer → State → Type 0 where
   conjugator_not_kept : (name first second : List ℕ) (p q rows : List Row) (letters : ℕ) (shape : Shape) → AreAsked old name first second shape p q → IsDecided shape old.budget p q (verdict.Conjugate rows) → IsLarge shape rows (length rows) letters
       → Does old (line.Conj name first second) (NotKept letters rows) old
   not_conjugate : (name first second : List ℕ) (p q : List Row) (shape : Shape) → AreAsked old name first second shape p q → IsDecided shape old.budget p q verdict.NotConjugate → Does old (line.Conj name first second) NotConjugate old
-  undecided : (name first second : List ℕ) (p q : List Row) (shape : Shape) → AreAsked old name first second shape p q → IsUndecided shape old.budget p q → Does old (line.Conj name first second) (Refused refusal.Infinite) old
   compared : (first second : List ℕ) (p q : List Row) (shape : Shape) (alike : Bool) → old.shape ≡ Some shape → bound old.names first ≡ Some p → bound old.names second ≡ Some q → IsTrue alike ↔ Alike shape p q
       → Does old (line.Equal first second) (Equal alike) old
   image_shown : (name : List ℕ) (word : Word) (p : List Row) (L : List Entry) (shape : Shape) → old.shape ≡ Some shape → bound old.names name ≡ Some p → IsWordOf shape word → IsImage shape p (pos 1) word L
@@ -105,6 +113,12 @@ pub data Does (old : State) : Line → Answer → State → Type 0 where
   image_foreign : (name : List ℕ) (word : Word) (p : List Row) (shape : Shape) → old.shape ≡ Some shape → bound old.names name ≡ Some p → ¬ IsWordOf shape word → Does old (line.Image name word) (Refused (refusal.Word 1)) old
   share_told : (name : List ℕ) (first second : Word) (p : List Row) (shape : Shape) (answer : Answer) → old.shape ≡ Some shape → bound old.names name ≡ Some p → TellsShare shape old.budget p first second answer
       → Does old (line.Share name first second) answer old
+  powers_told : (first second : List ℕ) (p q : List Row) (shape : Shape) (verdict : PowerVerdict) → old.shape ≡ Some shape → bound old.names first ≡ Some p → bound old.names second ≡ Some q → PowerRule shape p q old.budget (rule_answer verdict) → IsPowerVerdict shape p q verdict
+      → Does old (line.Power first second) (power_answer verdict) old
+  powers_large : (first second : List ℕ) (p q : List Row) (rows letters : ℕ) (shape : Shape) → old.shape ≡ Some shape → bound old.names first ≡ Some p → bound old.names second ≡ Some q → PowerRule shape p q old.budget (TooLarge rows letters)
+      → Does old (line.Power first second) (Refused (refusal.Large rows letters)) old
+  powers_wide : (first second : List ℕ) (p q : List Row) (shape : Shape) → old.shape ≡ Some shape → bound old.names first ≡ Some p → bound old.names second ≡ Some q → PowerRule shape p q old.budget TooWide
+      → Does old (line.Power first second) (Refused refusal.Wide) old
 
 -- bytes that are no line are refused with the column behind their longest front that some line has
 pub data Step (old : State) (bytes : List ℕ) : List Fetched → Answer → State → Type 0 where

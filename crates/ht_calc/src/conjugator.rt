@@ -8,13 +8,13 @@ ghost use Rattle.ht_pair.specs.Sizes.{IsLarge};
 ghost use Rattle.ht_pair.specs.declared.verdict.Verdict.TheVariants as verdict;
 ghost use Rattle.ht_script.specs.declared.line.Line.TheVariants as line;
 ghost use Rattle.ht_answer.specs.Answers.{HasAnswerText};
-ghost use Rattle.ht_ask.specs.Conjugations.{IsDecided};
+ghost use Rattle.ht_pair.specs.Decisions.{IsDecided};
 ghost use Rattle.ht_calc.specs.Steps.{AreAsked, Does};
 
 use crate::Session;
+use crate::decider::BasisDecider;
 use ht_answer::{Answer, Refusal};
-use ht_ask::{VerdictFault, verdict_of};
-use ht_pair::{Element, OpFault, Rows, Verdict, copy_rows};
+use ht_pair::{DecideFault, Decider, Element, OpFault, Rows, Verdict, Which, copy_rows};
 use ht_word::{Name, NoMemory, Shape};
 use std::alloc::Global;
 
@@ -43,13 +43,17 @@ impl Session {
         if !self.names.has_room(&name) {
             return Ok(Answer::Refused(Refusal::Names));
         }
-        match verdict_of(alloc, element, other, self.budget) {
+        let decider = BasisDecider {
+            budget: self.budget,
+        };
+        match decider.decide(alloc, element, other) {
             Ok(Verdict::Conjugate(rows)) => self.keep(alloc, name, shape, rows),
             Ok(Verdict::NotConjugate) => Ok(Answer::NotConjugate),
-            Err(VerdictFault::First) => Ok(Answer::Refused(Refusal::Budget(first))),
-            Err(VerdictFault::Second) => Ok(Answer::Refused(Refusal::Budget(second))),
-            Err(VerdictFault::Infinite) => Ok(Answer::Refused(Refusal::Infinite)),
-            Err(VerdictFault::NoMemory) => Err(NoMemory),
+            Err(DecideFault::Budget(Which::First)) => Ok(Answer::Refused(Refusal::Budget(first))),
+            Err(DecideFault::Budget(Which::Second)) => {
+                Ok(Answer::Refused(Refusal::Budget(second)))
+            }
+            Err(DecideFault::NoMemory) => Err(NoMemory),
         }
     }
 

@@ -16,6 +16,8 @@
 //! - `part`: the two parts of a bound element
 //! - `share`: whether two words share an orbit of a bound element
 //! - `conjugator`: whether two bound elements are conjugate, and what conjugates them
+//! - `decider`: what decides that, by quasinormal bases
+//! - `powers`: whether two bound elements have conjugate powers
 //!
 //! What the bound elements answer is told by `ht_ask`.
 #![tactic(auto)]
@@ -23,9 +25,11 @@
 mod answering;
 mod bindings;
 mod conjugator;
+mod decider;
 mod lines;
 mod load;
 mod part;
+mod powers;
 mod product;
 mod script;
 mod session;
@@ -33,6 +37,7 @@ mod share;
 mod status;
 mod words;
 
+pub use decider::BasisDecider;
 pub use script::run;
 pub use session::Session;
 pub use status::Status;

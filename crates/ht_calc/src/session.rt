@@ -71,7 +71,8 @@ impl Session {
     /// `image` takes one step of the word's cone (`Image::step`), and `basis` as long as finding the
     /// quasinormal basis (`quasinormal`); `types`, `order` and `profile` take that and a few passes
     /// over its words and their letters, and `parts` the sorting of the rows of both parts besides;
-    /// `conj` takes it for both elements, and the sorting of the conjugator's rows. `ponds` and
+    /// `conj` takes it for both elements, and the sorting of the conjugator's rows; `power` it for both,
+    /// and the powers and decisions of `ht_power::power_conjugate`. `ponds` and
     /// `share` take it and the steps of words that they follow (`ht_share::ponds`,
     /// `ht_share::Sharer`). A `load` makes one fetch, once the group is set and there is room for the
     /// name, and no other line makes any; nor is there a second one where no memory is found. It takes
@@ -148,6 +149,7 @@ impl Session {
                 first,
                 second,
             } => self.share(alloc, name, first, second),
+            Line::Power { first, second } => self.power(alloc, first, second),
         }
     }
 

@@ -1,1 +1,14 @@
-pub mod PeriodicVerdicts
+pub mod TakenOutLaws
+pub mod MatchingLaws
+pub mod PartsDone
+pub mod OwnerLaws
+pub mod LinkedAtomLaws
+pub mod ClassLaws
+pub mod CarriedRows
+pub mod StageLaws
+pub mod ConjugateVerdicts
+pub mod OneShape
+pub mod EndLaws
+pub mod FoundAtoms
+pub mod StageSteps
+pub mod StageEnds

@@ -1,11 +1,19 @@
 //! Whether elements of the group G(n, r) are conjugate, with an element that conjugates where they are.
 //!
-//! `conjugate_periodic(alloc, &f, &g)?` tells it of elements with finite order, from the quasinormal
-//! bases of `f` and `g` and the kinds of their words.
+//! `conjugate(alloc, &f, &g, &Sharer::new(&g))?` tells it, from the quasinormal bases of `f` and `g`, the
+//! kinds of their words, and what tells whether words share an orbit of `g`.
 //!
-//! - `periodic`: whether elements with empty infinite parts are conjugate
+//! - `conjugacy`: whether elements are conjugate
+//! - `ends`: the ends of atoms, as conjugate atoms have them in common
+//! - `linked`: atoms with the links inside them
+//! - `classes`: classes of conjugate atoms of one element
+//! - `matching`: atoms of one element matched with conjugate atoms of another
 #![tactic(auto)]
 
-mod periodic;
+mod classes;
+mod conjugacy;
+mod ends;
+mod linked;
+mod matching;
 
-pub use periodic::conjugate_periodic;
+pub use conjugacy::conjugate;

@@ -11,7 +11,7 @@ use Rattle.ht_types.specs.declared.direction.Direction.TheVariants.{Ahead, Behin
 use Rattle.ht_counterparts.specs.Ends.{End, end_cmp, way_number}
 use Rattle.ht_counterparts.proofs.SortedLists.{same_sorted}
 
-end_cmp_total : IsTotalOrder end_cmp
+pub end_cmp_total : IsTotalOrder end_cmp
 end_cmp_total = then_total (on_total (λ (e : End). way_number e.direction) nat_cmp_total)
     (then_total (on_total (λ (e : End). e.period) nat_cmp_total) (on_total (λ (e : End). e.letters) nat_cmp_total))
 

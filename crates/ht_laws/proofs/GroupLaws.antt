@@ -155,8 +155,8 @@ product_carries shape p q s u v w pair_p pair_q product c d = record {
 }
 
 -- what the k-th power carries, it carries as an element of its own
-pub power_carries : (shape : Shape) (p s : List Row) (k : ℤ) (u v : Word) → IsPair shape p → IsPower shape p k s → Carries shape p k u v ↔ Carries shape s (pos 1) u v
-power_carries shape p s k u v pair power =
+pub carries_by_power : (shape : Shape) (p s : List Row) (k : ℤ) (u v : Word) → IsPair shape p → IsPower shape p k s → Carries shape p k u v ↔ Carries shape s (pos 1) u v
+carries_by_power shape p s k u v pair power =
     let mp = (steps_map shape p pair k).ahead in
     let ms = (steps_map shape s power.pair (pos 1)).ahead in (
       (λ c. record { word = c.word; carried = carried_too shape (Steps p k) (Steps s (pos 1)) mp ms.extends (λ a b b' word f g. power.stepped a b b' word f (one_move s a b' g)) u v c.word c.carried }),

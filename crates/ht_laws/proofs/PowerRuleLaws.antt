@@ -84,7 +84,7 @@ record HaveInfinite (shape : Shape) (a b : List Row) (X Y : List Word) : Type 0 
   second_word : IsInfiniteWord shape b Y y
 
 -- a signed number from 1 on is not 0
-signed_some : (sign : Sign) (k : ℕ) → 1 ≤ k → signed sign k ≢ pos 0
+pub signed_some : (sign : Sign) (k : ℕ) → 1 ≤ k → signed sign k ≢ pos 0
 signed_some Plus k low e = absurd (omega (arith, ints, e))
 signed_some Minus k low e = absurd (omega (arith, ints, e))
 

@@ -17,6 +17,7 @@ use Rattle.ht_pair.specs.Bases.{AreApart, IsPrefixFree}
 use Rattle.ht_pair.specs.SortedItems.{head_cmp}
 use Rattle.ht_pair.proofs.ConeOrder.{IsBefore, before_free, before_less, before_trans, parted}
 use Rattle.ht_pair.proofs.RowSearch.{prefix_until}
+use Rattle.ht_pair.proofs.Sorting.{prefix_free_permuted}
 use Rattle.ht_local.proofs.BelowLaws.{decides_under, is_under}
 
 -- ---- order
@@ -45,12 +46,6 @@ apart_nested u v apart = by (nested u v) refl
 
 nested_apart : (u v : Word) → nested u v ≡ false → AreApart u v
 nested_apart u v e = ((λ h. true≢false (sym ((decides_nested u v).1 (inl h)) ∙ e)), (λ h. true≢false (sym ((decides_nested u v).1 (inr h)) ∙ e)))
-
--- words that are apart are so in another order
-pub apart_permuted : (X Y : List Word) → IsPermutation X Y → IsPrefixFree X → IsPrefixFree Y
-apart_permuted X Y h free i j d l m =
-    nested_apart (get_or Y i d) (get_or Y j d) (apart_from_distinct nested Y i j d
-    (IsDistinct-IsPermutation nested nested_back X Y h (IsDistinct-from_apart nested X (λ i j d l m. apart_nested (get_or X i d) (get_or X j d) (free i j d l m)))) l m)
 
 -- ---- neighbours
 
@@ -93,6 +88,6 @@ module _ {T : Type 0} (head : T → Word) (items : List T) (sorted : IsSorted (h
 pub apart_test : {T : Type 0} (head : T → Word) (W : List Word) (items : List T) → IsPermutation W (map head items) → IsSorted (head_cmp head) items
     → AllAdjacentBelow (λ (a : T) (b : T). ¬ IsUnder (head b) (head a)) items (length items) ↔ IsPrefixFree W
 apart_test head W items h sorted = (
-  (λ steps. apart_permuted (map head items) W (IsPermutation-sym W (map head items) h) (steps_free head items sorted steps)),
-  (λ free k d l. (AllPairs-from_map head AreApart items (apart_permuted W (map head items) h free) k (k + 1) d (omega arith) l).1),
+  (λ steps. prefix_free_permuted (map head items) W (IsPermutation-sym W (map head items) h) (steps_free head items sorted steps)),
+  (λ free k d l. (AllPairs-from_map head AreApart items (prefix_free_permuted W (map head items) h free) k (k + 1) d (omega arith) l).1),
 )

@@ -18,6 +18,7 @@ use Rattle.ht_types.proofs.AttractorLaws.{IsAttractorOf, attractor_ahead, comes_
 use Rattle.ht_types.proofs.FlowLaws.{turned_base}
 use Rattle.ht_types.proofs.MirrorLaws.{repeller_attractor, turned_mirrors}
 use Rattle.ht_types.proofs.PeriodicLaws.{carried_further, periodic_word_either}
+use Rattle.ht_types.proofs.PointLaws.{repeated_length}
 use Rattle.ht_types.proofs.TurnLaws.{HasSemiNormal}
 use Rattle.ht_pieces.specs.Pieces.{IsInside, IsKept}
 use Rattle.ht_pieces.specs.Values.{IsValue}
@@ -80,21 +81,17 @@ module _ {shape : Shape} {p : List Row} {X : List Word} (h : HasSemiNormal shape
 
   -- ---- lengths
 
-  length_repeated : (c : ℕ) (L : List ℕ) → length (repeated c L) ≡ c * length L
-  length_repeated zero L = omega (arith, ap (λ (t : List ℕ). length t) (repeated_none L))
-  length_repeated (suc c) L = omega (arith, ap (λ (t : List ℕ). length t) (repeated_next c L), length-append (repeated c L) L, length_repeated c L)
-
   -- where powers lead from one word under an attractor to another, whole repeats of its letters are between them
   rounds_apart : {y : Word} {n : ℕ} {L : List ℕ} → IsAttractorOf shape p X y n L → (k : ℤ) (z w : List ℕ) → Carries shape p k (y · z) (y · w) → AreRoundsApart (length L) (length w) (length z)
   rounds_apart {y} {n} {L} b (pos d) z w c =
       let f = carried_further shape p h.pair X h.semi.basis (pos d) y y z w b.listed (word_rest shape y z c.word) (attractor_ahead h b d) c in
       let k = periods_of h b d f.letters f.carries in
-      inl (k.count, omega (arith, ap (λ (t : List ℕ). length t) f.is, length-append f.letters z, ap (λ (t : List ℕ). length t) k.letters, length_repeated k.count L))
+      inl (k.count, omega (arith, ap (λ (t : List ℕ). length t) f.is, length-append f.letters z, ap (λ (t : List ℕ). length t) k.letters, repeated_length k.count L))
   rounds_apart {y} {n} {L} b (negsuc d) z w c =
       let back = carries_back shape p h.pair (negsuc d) (y · z) (y · w) c in
       let f = carried_further shape p h.pair X h.semi.basis (pos (suc d)) y y w z b.listed (word_rest shape y w back.word) (attractor_ahead h b (suc d)) back in
       let k = periods_of h b (suc d) f.letters f.carries in
-      inr (k.count, omega (arith, ap (λ (t : List ℕ). length t) f.is, length-append f.letters w, ap (λ (t : List ℕ). length t) k.letters, length_repeated k.count L))
+      inr (k.count, omega (arith, ap (λ (t : List ℕ). length t) f.is, length-append f.letters w, ap (λ (t : List ℕ). length t) k.letters, repeated_length k.count L))
 
 -- ---- the value by another end
 

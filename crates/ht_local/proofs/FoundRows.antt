@@ -31,7 +31,8 @@ use Rattle.ht_local.proofs.AlikeLists.{lists_conjugate}
 use Rattle.ht_local.proofs.PlacedListLaws.{ArePosed, known_there, second_pair}
 use Rattle.ht_local.proofs.PlaceLaws.{base_over, entry_listed}
 use Rattle.ht_local.proofs.StepBelowLaws.{step_carries, step_under}
-use Rattle.ht_local.proofs.TableLaws.{IsTableOver, moves_sent, sent_moves, stands_at, table_covers, to_of_shape}
+use Rattle.ht_quasi.proofs.RoundLaws.{something_at}
+use Rattle.ht_local.proofs.TableLaws.{IsTableOver, moves_sent, sent_moves, table_covers, to_of_shape}
 use Rattle.ht_types.proofs.TypedLaws.{typed_base}
 
 -- the lists are a table
@@ -48,7 +49,7 @@ lists_over f typed k atom lists many values = record {
 pub lists_values : {f g : TypedValue} {k : List ℕ} {known : List (Option Known)} {lists : List (List Entry)} → AreListsAt f k g known lists → All (IsValueList f.element.shape) lists
 lists_values {f} {g} {k} {known} {lists} are = All-from_contains (IsValueList f.element.shape) lists (λ L c.
     let l = c.1 in
-    let p = stands_at k c.0 (subst (λ n. c.0 < n) are.as_many l) in
+    let p = something_at k c.0 (subst (λ n. c.0 < n) are.as_many l) in
     (are.each c.0 p.0 L p.1 (at_place lists L c)).list)
 
 -- all rows of one step from under the atom's words agree

@@ -33,7 +33,7 @@ use Rattle.ht_local.specs.LocalConjugators.{ConjugatesPlaces}
 use Rattle.ht_local.specs.PlacedLists.{IsPosed, IsListAt}
 use Rattle.ht_local.specs.Ways.{IsAnchor, IsNext, IsWay}
 use Rattle.ht_local.proofs.SendingLaws.{IsBehind, anchor_value, sends_next, sends_value}
-use Rattle.ht_local.proofs.TableLaws.{stands_at}
+use Rattle.ht_quasi.proofs.RoundLaws.{something_at}
 use Rattle.ht_types.proofs.TypedLaws.{typed_base}
 use Rattle.ht_local.proofs.PlaceLaws.{entry_listed}
 
@@ -70,7 +70,7 @@ module _ {f g : TypedValue} {k : List ℕ} {known : List (Option Known)} (p : Ar
   -- something is known at an end
   pub known_there : (index place : ℕ) → slice_get k index ≡ Some place → IsEndAt f k place → (value : Known) × (slice_get known index ≡ Some (Some value))
   known_there index place at end =
-      let s = stands_at known index (omega (arith, p.posed.values.as_many, slice_get_within k index place at)) in
+      let s = something_at known index (omega (arith, p.posed.values.as_many, slice_get_within k index place at)) in
       by s.0 s.1 (p.posed.values.each index place s.0 at s.1)
     where
       by : (found : Option Known) → slice_get known index ≡ Some found → IsKnownAt f g k place found → (value : Known) × (slice_get known index ≡ Some (Some value))

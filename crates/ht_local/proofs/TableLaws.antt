@@ -16,6 +16,7 @@ use Rattle.ht_pair.specs.ValueLists.{IsValueList, Sends}
 use Rattle.ht_pair.specs.declared.row.Row.{Row}
 use Rattle.ht_pair.proofs.BasisLaws.{apart_under, basis_single, basis_word, covers_from, longest_bounds, longest_least, prefix_free_place, some_at}
 use Rattle.ht_pair.proofs.ValueListLaws.{reach_of, sends_some}
+use Rattle.ht_quasi.proofs.RoundLaws.{something_at}
 use Rattle.ht_quasi.proofs.StepLaws.{at_place}
 use Rattle.ht_types.proofs.PlacedWords.{at_places, placed_word}
 use Rattle.ht_local.specs.PlacedLists.{rows_at, rows_of_list}
@@ -32,12 +33,6 @@ place_once k ascending i j place e h = elim (trichotomy i j) [
   ]
   | inr same ↦ same
 ]
-
--- what stands in a list at a place
-pub stands_at : {T : Type 0} (xs : List T) (i : ℕ) → i < length xs → (x : T) × (slice_get xs i ≡ Some x)
-stands_at [] i l = absurd (omega arith)
-stands_at (x ∷ xs) zero l = (x, refl)
-stands_at (x ∷ xs) (suc i) l = stands_at xs i (omega arith)
 
 -- ---- the rows
 
@@ -135,7 +130,7 @@ pub record IsTableOver (shape : Shape) (X : List Word) (k : List ℕ) (lists : L
 module _ {shape : Shape} {X : List Word} {k : List ℕ} {lists : List (List Entry)} (t : IsTableOver shape X k lists) where
   -- a word at one of the places, with its list
   pub list_there : (i : ℕ) (place : ℕ) → slice_get k i ≡ Some place → (L : List Entry) × (slice_get lists i ≡ Some L) × IsValueList shape L
-  list_there i place e = let s = stands_at lists i (omega (arith, t.as_many, slice_get_within k i place e)) in (s.0, s.1, t.values i s.0 s.1)
+  list_there i place e = let s = something_at lists i (omega (arith, t.as_many, slice_get_within k i place e)) in (s.0, s.1, t.values i s.0 s.1)
 
   -- the rows move what is under a word at a place as its list sends the letters behind it
   pub moves_sent : (i place : ℕ) (x : Word) (L : List Entry) → slice_get k i ≡ Some place → slice_get X place ≡ Some x → slice_get lists i ≡ Some L

@@ -3,8 +3,7 @@ ghost use Rattle.std.specs.Prelude.{ℕ, ◌≤◌, ◌<◌, ◌^◌, MatchOptio
 ghost use Rattle.std.specs.Int.{IsGcd};
 ghost use Rattle.ht_num.specs.Numbers.{IsLcm, IsWide};
 
-// The largest number that isn't wide.
-const MOST: u128 = 0x7fff_ffff_ffff_ffff_ffff_ffff_ffff_ffff;
+use crate::exact::times;
 
 /// The greatest common divisor, by Euclid's divisions: at most 185; takes no memory. That of 0 and 0 is 0.
 pub fn gcd(a: u128, b: u128) -> u128
@@ -28,9 +27,5 @@ pub fn lcm(a: u128, b: u128) -> Option<u128>
     requires second { (1 ≤ b) × (b < 2 ^ 127) }
     ensures { MatchOption result ((k : ℕ) × IsLcm a b k × IsWide k) (λ k. IsLcm a b k × (k < 2 ^ 127)) }
 {
-    let times = a / gcd(a, b);
-    if times > MOST / b {
-        return None;
-    }
-    Some(times * b)
+    times(a / gcd(a, b), b)
 }

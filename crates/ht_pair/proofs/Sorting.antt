@@ -34,7 +34,7 @@ apart_unequal u v apart = elim (apart_before u v apart) [
 ]
 
 -- a prefix-free list stays so in another order
-prefix_free_permuted : (X Y : List Word) → IsPermutation X Y → IsPrefixFree X → IsPrefixFree Y
+pub prefix_free_permuted : (X Y : List Word) → IsPermutation X Y → IsPrefixFree X → IsPrefixFree Y
 prefix_free_permuted X Y h free =
     let laws = eq_by_cmp_equiv word_cmp_total in
     let distinct = IsDistinct-IsPermutation equal laws.symm X Y h (IsDistinct-from_apart equal X (λ i j d l m. apart_unequal _ _ (free i j d l m))) in

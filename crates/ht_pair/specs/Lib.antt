@@ -40,3 +40,4 @@ pub mod FiniteTrials
 pub mod Rates
 pub mod SignTrials
 pub mod PowerRule
+pub mod PowerVerdicts

@@ -15,7 +15,7 @@
 //! - `tiling`: the test whether sorted words are a basis
 //! - `side`: the `from` words or the `to` words of rows
 //! - `sorted`: items sorted by a word each
-//! - `verdict`: whether elements are conjugate
+//! - `verdict`: whether elements, or powers of them, are conjugate
 #![tactic(auto)]
 
 mod basis;
@@ -42,4 +42,4 @@ pub use pair::sort_pair;
 pub use reduce::{merge_table, reduce_rows};
 pub use row::{Row, Rows};
 pub use side::Side;
-pub use verdict::Verdict;
+pub use verdict::{PowerVerdict, Verdict};

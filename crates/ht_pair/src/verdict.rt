@@ -1,4 +1,4 @@
-//! Whether elements are conjugate.
+//! Whether elements, or powers of them, are conjugate.
 
 use crate::Rows;
 
@@ -9,4 +9,13 @@ pub enum Verdict {
     Conjugate(Rows),
     /// No element conjugates.
     NotConjugate,
+}
+
+/// Whether two elements have powers that are conjugate and not the identity.
+#[derive(Debug, Drop)]
+pub enum PowerVerdict {
+    /// `by` conjugates the i-th power of the first into the j-th power of the second; i is above 0.
+    Powers { i: i128, j: i128, by: Rows },
+    /// No powers that aren't the identity are conjugate.
+    None,
 }

@@ -26,14 +26,14 @@ abbrev pub commands : List Command
 commands =
     command.Group ∷ command.Reduce ∷ command.Let ∷ command.Show ∷ command.Equal ∷ command.Image ∷ command.Load ∷
     command.Basis ∷ command.Order ∷ command.Types ∷ command.Profile ∷ command.Parts ∷ command.Conj ∷
-    command.Ponds ∷ command.Share ∷ []
+    command.Ponds ∷ command.Share ∷ command.Power ∷ []
 
 -- the word of the command at a place
 abbrev pub word_at : ℕ → List ℕ
 word_at k = keyword (get_or commands k command.Group)
 
 -- where a command stands among all
-place_of : (c : Command) → (k : ℕ) × (k < 15) × (keyword c ≡ word_at k)
+place_of : (c : Command) → (k : ℕ) × (k < 16) × (keyword c ≡ word_at k)
 place_of command.Group = (0, omega arith, refl)
 place_of command.Reduce = (1, omega arith, refl)
 place_of command.Let = (2, omega arith, refl)
@@ -49,13 +49,14 @@ place_of command.Parts = (11, omega arith, refl)
 place_of command.Conj = (12, omega arith, refl)
 place_of command.Ponds = (13, omega arith, refl)
 place_of command.Share = (14, omega arith, refl)
+place_of command.Power = (15, omega arith, refl)
 
 -- a test that two texts differ
 pub differs : (token word : List ℕ) (same : Bool) → same ≡ pointwise eqb token word → same ≡ false → token ≢ word
 differs token word same test is e = true≢false (sym ((bytes_decides token word).1 e) ∙ sym test ∙ is)
 
 -- a token that is the word of no command
-pub no_keyword : (token : List ℕ) (n : ℕ) → 15 ≤ n → ((k : ℕ) → k < n → token ≢ word_at k) → ¬ IsKeyword token
+pub no_keyword : (token : List ℕ) (n : ℕ) → 16 ≤ n → ((k : ℕ) → k < n → token ≢ word_at k) → ¬ IsKeyword token
 no_keyword token n all none h = let at = place_of h.0 in none at.0 (omega (arith, at.1)) (h.1 ∙ at.2)
 
 -- the longest front that the words of the first n commands have
@@ -93,7 +94,7 @@ longest_of_new token n most next h g more = longest_of_next token n most next ne
 pub longest_of_old : (token : List ℕ) (n most next : ℕ) → IsLongestOf token n most → IsLongestFront (Is (word_at n)) token next → next ≤ most → IsLongestOf token (n + 1) most
 longest_of_old token n most next h g less = longest_of_next token n most next most h g (omega arith) less (inl refl)
 
-pub longest_of_all : (token : List ℕ) (n most : ℕ) → 15 ≤ n → IsLongestOf token n most → IsLongestFront IsKeyword token most
+pub longest_of_all : (token : List ℕ) (n most : ℕ) → 16 ≤ n → IsLongestOf token n most → IsLongestFront IsKeyword token most
 longest_of_all token n most all h = record {
   within = h.within;
   front = h.front;

@@ -12,7 +12,7 @@ use Rattle.ht_script.specs.declared.command.Command.{Command}
 use Rattle.ht_script.specs.declared.command.Command.TheVariants as command
 use Rattle.ht_script.specs.declared.command.Slot.TheVariants.{Name}
 use Rattle.ht_script.specs.declared.line.Line.{Line}
-use Rattle.ht_script.specs.declared.line.Line.TheVariants.{Blank, Group, Reduce, LetRows, LetProduct, Show, Equal, Image, Load, Basis, Order, Types, Profile, Parts, Conj, Ponds, Share}
+use Rattle.ht_script.specs.declared.line.Line.TheVariants.{Blank, Group, Reduce, LetRows, LetProduct, Show, Equal, Image, Load, Basis, Order, Types, Profile, Parts, Conj, Ponds, Share, Power}
 use Rattle.ht_script.specs.declared.ending.Ending.TheVariants as ending
 use Rattle.ht_script.specs.Tokens.{◌▸◌, Is, IsSpaces, IsToken, IsSpaced, IsSpan, IsFirstToken}
 use Rattle.ht_script.specs.Lines.{IsCommentText, IsComment, IsNumber, AreRows, IsNamed, IsWritten, IsFileNamed, IsLine, IsNoLine, IsLineText}
@@ -147,6 +147,7 @@ taken_line command.Conj rest b = let v = three_names_behind rest b in (Conj v.0 
 taken_line command.Ponds rest b = let v = name_behind rest b in (Ponds v.0, v.1)
 taken_line command.Share rest b =
     let v = named_with (IsWordText ▸ IsWordText ▸ IsSpaces) (λ (words : Word × Word). IsWritten words.0 ▸ IsWritten words.1 ▸ IsSpaces) (λ r h. let w = two_words_behind r h in ((w.0, w.1), w.2)) rest b in (Share v.0 v.1.0 v.1.1, v.2)
+taken_line command.Power rest b = let v = two_names_behind rest b in (Power v.0 v.1, v.2)
 
 -- bytes of the command's word, and of what makes a line behind it, are the text of the line
 pub completed : (F : List ℕ → List ℕ → Type 0) (bytes : List ℕ) (s : IsSpaced F bytes) (c : Command) (line : Line) → s.token ≡ keyword c → Completes c line s.rest → IsLine bytes line
@@ -166,6 +167,7 @@ completed F bytes s command.Parts (Parts periodic infinite whole) word h = refit
 completed F bytes s command.Conj (Conj bound first second) word h = refit F _ bytes s (word, h)
 completed F bytes s command.Ponds (Ponds name) word h = refit F _ bytes s (word, h)
 completed F bytes s command.Share (Share name first second) word h = refit F _ bytes s (word, h)
+completed F bytes s command.Power (Power first second) word h = refit F _ bytes s (word, h)
 completed F bytes s _ _ word h = absurd h
 
 -- the line of a command
@@ -194,6 +196,7 @@ command_for (Parts periodic infinite whole) = Some command.Parts
 command_for (Conj bound first second) = Some command.Conj
 command_for (Ponds name) = Some command.Ponds
 command_for (Share name first second) = Some command.Share
+command_for (Power first second) = Some command.Power
 
 -- a token for each name, with spaces before it, and spaces alone behind the last
 abbrev pub AreNamed : List (List ℕ) → List ℕ → Type 0
@@ -243,6 +246,7 @@ told (Share name first second) bytes h =
     let words = h.fits.1.fits.1 in
     let last = words.fits.1 in
     refit _ _ bytes h (h.fits.0, refit _ _ h.rest h.fits.1 (h.fits.1.fits.0.0, refit _ _ h.fits.1.rest words ((first, words.fits.0), refit _ _ words.rest last ((second, last.fits.0), last.fits.1))))
+told (Power first second) bytes h = refit _ _ bytes h (h.fits.0, names_text (first ∷ second ∷ []) h.rest h.fits.1)
 
 pub command_text : (bytes : List ℕ) (c : Command) → (Is (keyword c) ▸ IsTaken c) bytes → IsCommandText bytes
 command_text bytes c h = refit (λ t u. Is (keyword c) t × IsTaken c u) CommandFits bytes h (record { of = c; word = h.fits.0; behind = h.fits.1 })

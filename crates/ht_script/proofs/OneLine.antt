@@ -9,7 +9,7 @@ use Rattle.ht_text.proofs.RowTexts.{same_rows}
 use Rattle.ht_script.specs.declared.command.Command.{Command}
 use Rattle.ht_script.specs.declared.command.Command.TheVariants as command
 use Rattle.ht_script.specs.declared.line.Line.{Line}
-use Rattle.ht_script.specs.declared.line.Line.TheVariants.{Blank, Group, Reduce, LetRows, LetProduct, Show, Equal, Image, Load, Basis, Order, Types, Profile, Parts, Conj, Ponds, Share}
+use Rattle.ht_script.specs.declared.line.Line.TheVariants.{Blank, Group, Reduce, LetRows, LetProduct, Show, Equal, Image, Load, Basis, Order, Types, Profile, Parts, Conj, Ponds, Share, Power}
 use Rattle.ht_script.specs.declared.factor.Factor.{Factor}
 use Rattle.ht_script.specs.Factors.{IsFactor, AreListed, AreFactors}
 use Rattle.ht_script.specs.Tokens.{◌▸◌, Is, IsSpaces, IsToken}
@@ -160,6 +160,7 @@ same_line bytes (Share a u v) (Share b u' v') e g h =
     let first_is = first.0 in
     let second_is = second.0 in
     cc
+same_line bytes (Power a b) (Power a' b') e g h = let same = one_list command.Power (a ∷ b ∷ []) (a' ∷ b' ∷ []) bytes refl g h in cc
 same_line bytes _ _ e g h = absurd cc
 
 pub one_line : (bytes : List ℕ) (l m : Line) → IsLine bytes l → IsLine bytes m → l ≡ m

@@ -15,7 +15,7 @@ use Rattle.ht_word.specs.declared.word.Word.{Word}
 use Rattle.ht_pair.specs.declared.row.Row.{Row}
 use Rattle.ht_text.specs.Texts.{IsNum, IsWord, IsRows}
 use Rattle.ht_script.specs.declared.line.Line.{Line}
-use Rattle.ht_script.specs.declared.line.Line.TheVariants.{Blank, Group, Reduce, LetRows, LetProduct, Show, Equal, Image, Load, Basis, Order, Types, Profile, Parts, Conj, Ponds, Share}
+use Rattle.ht_script.specs.declared.line.Line.TheVariants.{Blank, Group, Reduce, LetRows, LetProduct, Show, Equal, Image, Load, Basis, Order, Types, Profile, Parts, Conj, Ponds, Share, Power}
 use Rattle.ht_script.specs.Tokens.{IsSpaces, Is, ◌▸◌}
 use Rattle.ht_script.specs.Names.{IsName, IsFileName}
 use Rattle.ht_script.specs.Factors.{AreFactors}
@@ -63,6 +63,7 @@ IsLine bytes (Parts periodic infinite whole) = (Is (codes "parts") ▸ IsNamed p
 IsLine bytes (Conj bound first second) = (Is (codes "conj") ▸ IsNamed bound ▸ IsNamed first ▸ IsNamed second ▸ IsSpaces) bytes
 IsLine bytes (Ponds name) = (Is (codes "ponds") ▸ IsNamed name ▸ IsSpaces) bytes
 IsLine bytes (Share name first second) = (Is (codes "share") ▸ IsNamed name ▸ IsWritten first ▸ IsWritten second ▸ IsSpaces) bytes
+IsLine bytes (Power first second) = (Is (codes "power") ▸ IsNamed first ▸ IsNamed second ▸ IsSpaces) bytes
 
 abbrev pub IsNoLine : List ℕ → Type 0
 IsNoLine bytes = (line : Line) → ¬ IsLine bytes line

@@ -21,7 +21,7 @@ use Rattle.ht_script.specs.declared.command.Slot.TheVariants.{Number, Name, Equa
 use Rattle.ht_script.specs.declared.ending.Ending.{Ending}
 use Rattle.ht_script.specs.declared.ending.Ending.TheVariants as ending
 use Rattle.ht_script.specs.declared.line.Line.{Line}
-use Rattle.ht_script.specs.declared.line.Line.TheVariants.{Group, Reduce, LetRows, LetProduct, Show, Equal, Image, Load, Basis, Order, Types, Profile, Parts, Conj, Ponds, Share}
+use Rattle.ht_script.specs.declared.line.Line.TheVariants.{Group, Reduce, LetRows, LetProduct, Show, Equal, Image, Load, Basis, Order, Types, Profile, Parts, Conj, Ponds, Share, Power}
 use Rattle.ht_script.specs.Tokens.{IsSpaces, Is, ◌▸◌}
 use Rattle.ht_script.specs.Names.{IsName, IsFileName}
 use Rattle.ht_script.specs.Factors.{AreFactors, AreFactorsText}
@@ -43,6 +43,7 @@ keyword command.Parts = codes "parts"
 keyword command.Conj = codes "conj"
 keyword command.Ponds = codes "ponds"
 keyword command.Share = codes "share"
+keyword command.Power = codes "power"
 
 abbrev pub slots_of : Command → List Slot
 slots_of command.Group = Number ∷ Number ∷ []
@@ -60,6 +61,7 @@ slots_of command.Parts = Name ∷ Name ∷ Name ∷ []
 slots_of command.Conj = Name ∷ Name ∷ Name ∷ []
 slots_of command.Ponds = Name ∷ []
 slots_of command.Share = Name ∷ Word ∷ Word ∷ []
+slots_of command.Power = Name ∷ Name ∷ []
 
 abbrev pub ending_of : Command → Ending
 ending_of command.Group = ending.Spaces
@@ -77,6 +79,7 @@ ending_of command.Parts = ending.Spaces
 ending_of command.Conj = ending.Spaces
 ending_of command.Ponds = ending.Spaces
 ending_of command.Share = ending.Spaces
+ending_of command.Power = ending.Spaces
 
 abbrev pub IsSlot : Slot → List ℕ → Type 0
 IsSlot Number token = IsNumText token
@@ -114,6 +117,7 @@ Completes command.Parts (Parts periodic infinite whole) bytes = (IsNamed periodi
 Completes command.Conj (Conj bound first second) bytes = (IsNamed bound ▸ IsNamed first ▸ IsNamed second ▸ IsSpaces) bytes
 Completes command.Ponds (Ponds name) bytes = (IsNamed name ▸ IsSpaces) bytes
 Completes command.Share (Share name first second) bytes = (IsNamed name ▸ IsWritten first ▸ IsWritten second ▸ IsSpaces) bytes
+Completes command.Power (Power first second) bytes = (IsNamed first ▸ IsNamed second ▸ IsSpaces) bytes
 Completes _ _ bytes = ⊥
 
 abbrev pub HasOneName : Command → Type 0

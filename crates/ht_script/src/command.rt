@@ -27,6 +27,7 @@ pub(crate) enum Command {
     Conj,
     Ponds,
     Share,
+    Power,
 }
 
 /// What a token behind the first word is.
@@ -40,7 +41,7 @@ pub(crate) enum Slot {
 }
 
 // Every command.
-const COMMANDS: [Command; 15] = [
+const COMMANDS: [Command; 16] = [
     Command::Group,
     Command::Reduce,
     Command::Let,
@@ -56,6 +57,7 @@ const COMMANDS: [Command; 15] = [
     Command::Conj,
     Command::Ponds,
     Command::Share,
+    Command::Power,
 ];
 
 impl Command {
@@ -79,6 +81,7 @@ impl Command {
             Command::Conj => b"conj",
             Command::Ponds => b"ponds",
             Command::Share => b"share",
+            Command::Power => b"power",
         }
     }
 
@@ -90,7 +93,7 @@ impl Command {
             Command::Group => &[Slot::Number, Slot::Number],
             Command::Reduce => &[],
             Command::Let => &[Slot::Name, Slot::Equals],
-            Command::Equal => &[Slot::Name, Slot::Name],
+            Command::Equal | Command::Power => &[Slot::Name, Slot::Name],
             Command::Image => &[Slot::Name, Slot::Word],
             Command::Load => &[Slot::Name, Slot::File],
             Command::Show | Command::Basis | Command::Order => &[Slot::Name],
@@ -111,7 +114,7 @@ impl Command {
             Command::Image | Command::Load | Command::Basis => Ending::Spaces,
             Command::Order | Command::Types | Command::Profile => Ending::Spaces,
             Command::Parts | Command::Conj => Ending::Spaces,
-            Command::Ponds | Command::Share => Ending::Spaces,
+            Command::Ponds | Command::Share | Command::Power => Ending::Spaces,
         }
     }
 

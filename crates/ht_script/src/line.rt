@@ -76,6 +76,11 @@ pub enum Line {
         first: Name,
         second: Name,
     },
+    /// `power` and two names.
+    Power {
+        first: Name,
+        second: Name,
+    },
 }
 
 /// Why bytes give no line.

@@ -58,6 +58,7 @@ fn read_behind(alloc: Global, command: Command, bytes: &[u8]) -> Result<Option<L
         Command::Parts => read_parts(alloc, bytes),
         Command::Conj => read_conj(alloc, bytes),
         Command::Share => read_share(alloc, bytes),
+        Command::Power => read_power(alloc, bytes),
         Command::Show | Command::Basis | Command::Order => read_named(alloc, command, bytes),
         Command::Types | Command::Profile | Command::Ponds => read_named(alloc, command, bytes),
     }
@@ -114,7 +115,7 @@ fn read_named(alloc: Global, command: Command, bytes: &[u8]) -> Result<Option<Li
         Command::Types => Some(Line::Types(name)),
         Command::Profile => Some(Line::Profile(name)),
         Command::Ponds => Some(Line::Ponds(name)),
-        Command::Group | Command::Reduce | Command::Let | Command::Equal => None,
+        Command::Group | Command::Reduce | Command::Let | Command::Equal | Command::Power => None,
         Command::Image | Command::Load | Command::Parts | Command::Conj | Command::Share => None,
     })
 }
@@ -198,6 +199,16 @@ fn read_share(alloc: Global, bytes: &[u8]) -> Result<Option<Line>, NoMemory>
         first: from,
         second: to,
     }))
+}
+
+// The line of `power` and the bytes behind it. Three passes over them.
+fn read_power(alloc: Global, bytes: &[u8]) -> Result<Option<Line>, NoMemory>
+    ensures { IfOk result (Reads Command.Power bytes.now) }
+{
+    let Some((first, second)) = read_two_names(alloc, bytes)? else {
+        return Ok(None);
+    };
+    Ok(Some(Line::Power { first, second }))
 }
 
 // The one token that the bytes have. One pass over them.

@@ -25,7 +25,7 @@ use Rattle.ht_types.proofs.TurnLaws.{HasSemiNormal, grows_attractor}
 
 -- ---- letters again and again
 
-repeated_length : (s : ℕ) (G : List ℕ) → length (repeated s G) ≡ s * length G
+pub repeated_length : (s : ℕ) (G : List ℕ) → length (repeated s G) ≡ s * length G
 repeated_length zero G = ap (λ (t : List ℕ). length t) (repeated_none G) ∙ omega arith
 repeated_length (suc s) G = omega (arith, ap (λ (t : List ℕ). length t) (repeated_next s G), length-append (repeated s G) G, repeated_length s G)
 

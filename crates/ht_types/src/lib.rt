@@ -36,5 +36,5 @@ pub use link::{Atoms, Link, Links, Places};
 pub use order::{Order, Profile};
 pub use sharing::{Pond, Ponds, Sharing};
 pub use step::Step;
-pub use typed::{Typed, types};
+pub use typed::{Typed, typed_within, types};
 pub use walk::{Walk, next_of, placed, walk_of};

@@ -1,5 +1,6 @@
 //! Elements with their quasinormal basis and the kinds of its words.
-ghost use Rattle.std.specs.Prelude.{◌≡◌, ◌<◌, Some, length, slice_get, IfOk};
+ghost use Rattle.std.specs.Prelude.{◌≡◌, ◌≤◌, ◌<◌, Some, length, slice_get, IfOk, IsErrOf};
+ghost use Rattle.ht_pair.specs.Budgets.{IsOverBudget};
 ghost use Rattle.ht_pair.specs.Bases.{TakesAtMost};
 ghost use Rattle.ht_quasi.specs.Quasis.{IsQuasi};
 ghost use Rattle.ht_word.specs.declared.word.Word.{Word};
@@ -13,7 +14,7 @@ use crate::step::{Step, Steps, steps};
 use crate::told::kinds_of;
 use ht_ops::inverse;
 use ht_pair::Element;
-use ht_quasi::Quasi;
+use ht_quasi::{Quasi, QuasiFault, quasinormal};
 use ht_word::NoMemory;
 use std::alloc::Global;
 use std::marker::Model;
@@ -143,4 +144,16 @@ pub fn types(alloc: Global, a: &Element, quasi: Quasi) -> Result<Typed, NoMemory
         ahead,
         behind,
     })
+}
+
+/// The element with its quasinormal basis and the kinds of its words; `Budget` exactly where the basis
+/// takes more expansions of the roots. As long as `quasinormal` and `types`.
+pub fn typed_within(alloc: Global, a: &Element, budget: u32) -> Result<Typed, QuasiFault>
+    requires { budget ≤ 65536 }
+    ensures typed { IfOk result (λ typed. (typed.element ≡ a.now) × IsTyped a.now typed.quasi typed.kinds) }
+    ensures within { IfOk result (λ typed. TakesAtMost a.now.shape typed.quasi.basis.words budget) }
+    ensures over { IsErrOf result QuasiFault.Budget → IsOverBudget a.now.shape budget a.now.rows }
+{
+    let quasi = quasinormal(alloc, a, budget)?;
+    Ok(types(alloc, a, quasi)?)
 }

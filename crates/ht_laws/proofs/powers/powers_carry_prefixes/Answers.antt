@@ -1,11 +1,11 @@
 use Rattle.ht_pair.proofs.CarriesLaws.{carries_extends, carries_children}
 use Rattle.ht_pair.proofs.TurnedLaws.{carries_of_turned, carries_to_turned}
-use Rattle.ht_laws.proofs.GroupLaws.{power_carries}
+use Rattle.ht_laws.proofs.GroupLaws.{carries_by_power}
 use Rattle.ht_laws.proofs.PrefixLaws.{moves_carries}
 use Rattle.ht_laws.proofs.powers.powers_carry_prefixes.Goals as goal
 
 pub returns-clause-power : goal.returns-clause-power
-returns-clause-power c = power_carries
+returns-clause-power c = carries_by_power
 
 pub returns-clause-moved : goal.returns-clause-moved
 returns-clause-moved c = moves_carries

@@ -67,3 +67,7 @@ returns-in-Ponds-clause-step g c = λ bytes is.
 pub returns-in-Share-clause-step : goal.returns-in-Share-clause-step
 returns-in-Share-clause-step g c = λ bytes is.
     alone_or_err c.args.self.now c.args.self.now c.args.line (line.Share c.in-Share.name c.in-Share.first c.in-Share.second) c.share.result (g.L.Library.files c.args.files.now) (g.L.Library.faults c.args.files.now) (g.L.Library.asked c.args.files.now) bytes c.in-Share.is c.share.ensures.step is
+
+pub returns-in-Power-clause-step : goal.returns-in-Power-clause-step
+returns-in-Power-clause-step g c = λ bytes is.
+    alone_or_err c.args.self.now c.args.self.now c.args.line (line.Power c.in-Power.first c.in-Power.second) c.power.result (g.L.Library.files c.args.files.now) (g.L.Library.faults c.args.files.now) (g.L.Library.asked c.args.files.now) bytes c.in-Power.is c.power.ensures.step is

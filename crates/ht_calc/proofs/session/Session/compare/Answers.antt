@@ -1,27 +1,26 @@
-use Rattle.std.proofs.Common.{rules, [], ◌∷◌, ◌∙◌, subst, sym, ap}
+use Rattle.std.proofs.Common.{rules, ◌∙◌, refl, subst, sym, ap}
 use Rattle.ht_script.specs.declared.line.Line.TheVariants as line
-use Rattle.ht_answer.specs.declared.answer.Answer.TheVariants.{Equal, Refused}
-use Rattle.ht_answer.specs.declared.answer.Refusal.TheVariants as refusal
+use Rattle.ht_answer.specs.declared.answer.Answer.TheVariants.{Equal}
 use Rattle.ht_calc.specs.Names.{rows_by_name}
 use Rattle.ht_calc.specs.States.{State}
-use Rattle.ht_calc.specs.Steps.{Does, before_group, unbound, compared}
-use Rattle.ht_calc.proofs.NameLaws.{rows_of, bound_rows, bound_of_shape, first_unbound, second_unbound}
+use Rattle.ht_calc.specs.Steps.{Does, compared}
+use Rattle.ht_calc.proofs.NameLaws.{rows_of, bound_rows, bound_of_shape}
+use Rattle.ht_calc.proofs.TwoNames.{no_group, first_none, second_none}
 use Rattle.ht_calc.proofs.session.Session.compare.Goals as goal
 
 pub returns-then-is_none-clause-step : goal.returns-then-is_none-clause-step
 returns-then-is_none-clause-step c =
-    subst (λ (s : State). Does s (line.Equal c.args.first c.args.second) (Refused refusal.Group) s) c.self.view_is (before_group (line.Equal c.args.first c.args.second) tt (search rules))
+    no_group (record { shape = c.self.inside.shape; budget = c.self.inside.budget; names = rows_by_name c.self.inside.names }) c.args.self.now (line.Equal c.args.first c.args.second) c.args.first c.args.second refl c.self.view_is tt (search rules)
 
 pub returns-in_default-clause-step : goal.returns-in_default-clause-step
 returns-in_default-clause-step c =
-    subst (λ (s : State). Does s (line.Equal c.args.first c.args.second) (Refused (refusal.Name c.args.first)) s) c.self.view_is
-    (unbound (line.Equal c.args.first c.args.second) c.args.first (search rules) (first_unbound (rows_by_name c.self.inside.names) c.args.first (c.args.second ∷ []) (bound_rows c.self.inside.names c.args.first ∙ ap rows_of c.in_default.ensures)))
+    first_none (record { shape = c.self.inside.shape; budget = c.self.inside.budget; names = rows_by_name c.self.inside.names }) c.args.self.now (line.Equal c.args.first c.args.second) c.args.first c.args.second refl c.self.view_is (search rules)
+    (bound_rows c.self.inside.names c.args.first ∙ ap rows_of c.in_default.ensures)
 
 pub returns-in_default-get-clause-step : goal.returns-in_default-get-clause-step
 returns-in_default-get-clause-step c =
-    subst (λ (s : State). Does s (line.Equal c.args.first c.args.second) (Refused (refusal.Name c.args.second)) s) c.self.view_is
-    (unbound (line.Equal c.args.first c.args.second) c.args.second (search rules)
-    (second_unbound (rows_by_name c.self.inside.names) c.args.first c.args.second c.in-Some.element.now.rows (bound_rows c.self.inside.names c.args.first ∙ ap rows_of c.in-Some.ensures) (bound_rows c.self.inside.names c.args.second ∙ ap rows_of c.in_default-get.ensures)))
+    second_none (record { shape = c.self.inside.shape; budget = c.self.inside.budget; names = rows_by_name c.self.inside.names }) c.args.self.now (line.Equal c.args.first c.args.second) c.args.first c.args.second refl c.self.view_is c.in-Some.element.now.rows
+    (bound_rows c.self.inside.names c.args.first ∙ ap rows_of c.in-Some.ensures) (search rules) (bound_rows c.self.inside.names c.args.second ∙ ap rows_of c.in_default-get.ensures)
 
 pub same-requires : goal.same-requires
 same-requires c =

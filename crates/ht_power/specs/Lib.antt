@@ -1,0 +1,6 @@
+pub mod Told
+pub mod Cycles
+pub mod CyclePowers
+pub mod FiniteOrders
+pub mod RatesTold
+pub mod SignsTold

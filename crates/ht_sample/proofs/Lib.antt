@@ -1,0 +1,10 @@
+pub mod WholeLaws
+pub mod GrowthLaws
+pub mod ShuffleLaws
+pub mod OpenedLaws
+pub mod ImageLaws
+pub mod GroupLaws
+pub mod BetweenLaws
+pub mod SmallPairLaws
+pub mod ConjugateLaws
+pub mod SampleLaws
