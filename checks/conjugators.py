@@ -5,32 +5,18 @@ conjugator with too long words is printed and not kept.
 
 usage: conjugators.py PROGRAM
 """
-import itertools
 import random
 import subprocess
 import sys
 
-from common.bases import all_bases
-from common.powers import product
-from common.words import all_letters, behind, is_canonical, longest, moved, parse, rows_text, some_basis, some_element, some_letters, some_pair, turned
+from common.bases import all_pairs
+from common.powers import conjugated, product
+from common.words import all_letters, behind, is_canonical, longest, moved, parse, rows_text, some_element, some_letters, some_pair, some_torsion
 
 COMMANDS = ["let a = {a}", "let b = {b}", "order a", "order b", "basis a", "basis b", "conj {h} b a", "conj {h} a b", "show {h}"]
 
 # Groups, with the most expansions of the bases that are permuted and of those of the conjugators tried.
 GROUPS = [(2, 1, 5, 3), (2, 2, 4, 2), (3, 1, 4, 2), (3, 2, 3, 1), (4, 1, 3, 1), (5, 1, 3, 1), (5, 2, 2, 1)]
-
-
-def conjugated(n, r, by, rows):
-    """The canonical pair of the rows, conjugated by a pair."""
-    return product(n, r, [turned(by), rows, by])
-
-
-def permuted(rng, n, r, size):
-    """The words of a basis, permuted."""
-    words = some_basis(rng, n, r, size)
-    others = list(words)
-    rng.shuffle(others)
-    return product(n, r, [list(zip(words, others))])
 
 
 def exchanged(rng, n, r, rows):
@@ -43,20 +29,12 @@ def exchanged(rng, n, r, rows):
 
 def some_case(rng, n, r, most):
     """Two elements, and whether they are known to be conjugate."""
-    a = product(n, r, [some_element(rng, n, r, rng.randrange(most + 1))]) if rng.randrange(3) else permuted(rng, n, r, rng.randrange(most + 1))
+    a = product(n, r, [(some_element if rng.randrange(3) else some_torsion)(rng, n, r, rng.randrange(most + 1))])
     chosen = rng.randrange(8)
     if chosen < 6:
         b = conjugated(n, r, some_pair(rng, n, r, rng.randrange(most)), a)
         return (a, b, True) if chosen < 4 else (a, exchanged(rng, n, r, b), False)
     return a, product(n, r, [some_element(rng, n, r, rng.randrange(most + 1))]), False
-
-
-def all_pairs(n, r, most):
-    """All pairs of bases of at most so many expansions."""
-    for level in all_bases(n, r, most):
-        for froms, tos in itertools.product(level, level):
-            for order in itertools.permutations(sorted(tos)):
-                yield list(zip(sorted(froms), order))
 
 
 def ask(program, n, r, cases):

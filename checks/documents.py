@@ -111,7 +111,7 @@ def chain(_):
 
 def mistakes(program):
     """What is written and what is meant, in the table of first mistakes."""
-    section = text_of(TOP / "docs" / "formats.md").split("### Ten usual first mistakes")[1]
+    section = text_of(TOP / "docs" / "formats.md").split("### Ten usual first mistakes")[1].split("\n## ")[0]
     group, bound = "group 2 1\n", "let f = x1.11>x1.1;x1.12>x1.21;x1.2>x1.22\nlet a = x1.1>x1.2;x1.2>x1.1\n"
     rows = re.findall(r"^\| `([^`]+)`([^|]*)\| `([^`]+)` \| `([^`]+)`", section, re.M)
     if len(rows) != 10:

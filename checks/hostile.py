@@ -1,14 +1,21 @@
 """Scripts and files that are made to hurt: examples that are cut, spliced and bent, numbers at limits, long words,
-deep elements, files that lie. Each run has to end within 20 seconds and 1 GiB by one of the seven statuses, write
-nothing on standard error, answer each line of a script that it reads to the end, and write the same bytes again.
+deep elements, files that lie, words of the command line at limits. Each run has to end within 20 seconds and 1 GiB by
+one of the seven statuses, write nothing on standard error, answer each line of a script that it reads to the end, and
+write the same bytes again.
 
 usage: hostile.py PROGRAM [COUNT [SEED]]
 
-COUNT cases are tried, 500 if it isn't given; each case is made from the seed and its number alone.
+COUNT cases are tried, 500 if it isn't given; each is made from the seed and its number alone, and one that breaks
+something is kept in a folder that is told. A campaign is pieces with seeds of their own, some of them at a time, behind
+all other work, over a copy of the program that no gate replaces meanwhile; these make 100,000 cases:
+
+    seq 20 | xargs -P 3 -I SEED sh -c 'nice -n 19 python3 -B checks/hostile.py PROGRAM 5000 SEED >hostile.SEED'
+    tail -qn 1 hostile.*
 """
 import random
 import re
 import resource
+import shutil
 import subprocess
 import sys
 import tempfile
@@ -22,7 +29,10 @@ STATUSES = range(7)
 
 NUMBERS = ["0", "1", "2", "9", "10", "255", "256", "9999", "10000", "65535", "65536", "999999", "4294967296", str(2**127 - 1), str(2**127), "9" * 60]
 PIECES = [b"#", b"\r\n", b"\0", b"\xff", b" " * 9, b"\n" * 3, b">", b";", b".", b"^-", b"^", b"=", b"x", b"x1", b"x1.2>x1.1", b"group 2 1\n", b"show a\n"]
-QUESTIONS = ["show a", "basis a", "types a", "order a", "profile a", "ponds a", "parts p q a", "conj h a a", "share a x1.1 x1.2", "image a x1", "equal a a", "let b = a^-1 a^3"]
+QUESTIONS = [
+    "show a", "basis a", "types a", "order a", "profile a", "ponds a", "parts p q a", "share a x1.1 x1.2", "image a x1", "equal a a",
+    "conj h a a", "conj h a b", "power a a", "power a b", "power b a", "let b = a^-1 a^3",
+]
 
 
 def corpus():
@@ -119,33 +129,49 @@ def case(seed, number, sources):
     return data, lying(rng)
 
 
+def some_words(rng):
+    """The words of the command line: mostly none or a budget that is one. A sample takes longer than most scripts."""
+    kind = rng.randrange(100)
+    if kind == 0:
+        return ["--sample", rng.choice([str(rng.getrandbits(64)), str(2**64 - 1), *NUMBERS])]
+    if kind == 1:
+        return ["--budget", rng.choice([*NUMBERS, "-1", "", "x"])]
+    budget = rng.choice([None, None, "1", "7", "65536"])
+    return [] if budget is None else ["--budget", budget]
+
+
 def limited():
     resource.setrlimit(resource.RLIMIT_AS, (MOST_BYTES, MOST_BYTES))
 
 
-def ran(program, folder, script, budget):
-    words = [] if budget is None else ["--budget", budget]
+def ran(program, folder, script, words):
     return subprocess.run([program, *words], input=script, capture_output=True, cwd=folder, timeout=MOST_SECONDS, preexec_fn=limited)
 
 
-def wanted_answers(script):
-    """The number of lines that have an answer: all but blank ones and comments."""
+def wanted_answers(script, words):
+    """The number of lines that have an answer: all but blank ones and comments; or six, of a sample."""
+    if "--sample" in words:
+        return 6
     return sum(1 for line in script.split(b"\n") if line.strip(b" ") and not line.lstrip(b" ").startswith(b"#"))
 
 
-def fault(program, folder, script, budget):
+def fault(program, folder, script, words):
     """What the run breaks, or None."""
     try:
-        first = ran(program, folder, script, budget)
+        first = ran(program, folder, script, words)
         if first.returncode not in STATUSES:
             return f"status {first.returncode}"
         if first.stderr:
             return "a word on standard error"
-        if first.returncode in (0, 1) and first.stdout.count(b"\n") != wanted_answers(script):
-            return f"{first.stdout.count(bytes([10]))} answers to {wanted_answers(script)} lines"
+        answers = first.stdout.count(b"\n")
+        wanted = wanted_answers(script, words)
+        if first.returncode in (0, 1) and answers != wanted:
+            return f"{answers} answers to {wanted} lines"
+        if first.returncode == 2 and (first.stdout or not words):
+            return "bad words, and yet answers, or none of the words"
         if (first.returncode == 1) != (first.returncode < 2 and b"refused: " in first.stdout):
             return f"status {first.returncode} beside its answers"
-        again = ran(program, folder, script, budget)
+        again = ran(program, folder, script, words)
         if (first.returncode, first.stdout) != (again.returncode, again.stdout):
             return "another answer the second time"
     except subprocess.TimeoutExpired:
@@ -162,11 +188,14 @@ def main():
     with tempfile.TemporaryDirectory() as folder:
         for number in range(count):
             script, file = case(seed, number, sources)
+            words = some_words(random.Random(f"{seed} {number} words"))
             Path(folder, "a.ht").write_bytes(file)
-            broken = fault(program, folder, script, random.Random(number).choice([None, None, "1", "7", "65536"]))
+            broken = fault(program, folder, script, words)
             if broken is not None:
                 wrong += 1
-                print(f"hostile: case {number} of the seed {seed}: {broken}")
+                Path(folder, "script").write_bytes(script)
+                kept = shutil.copytree(folder, Path(tempfile.mkdtemp(prefix="hostile-"), "case"))
+                print(f"hostile: case {number} of the seed {seed}, with the words {words}, in {kept}: {broken}")
     print(f"hostile: {count} cases, {wrong} wrong")
     return 1 if wrong else 0
 

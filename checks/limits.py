@@ -25,8 +25,8 @@ def cases():
     yield file_text([((1, z), (1, z)) for z in all_letters(2, 14)]), "load a 1"
     yield file_text(comb(1_024)), "load a 1025"
     yield file_text(comb(1_025)), "refused: large 1026 1025"
-    yield "x" * 4_194_304, "refused: file form 1"
-    yield "x" * 4_194_305, "refused: file form 0"
+    yield " " * 4_194_304, "refused: file form 1"
+    yield " " * 4_194_305, "refused: file form 0"
 
 
 def answer(program, file):

@@ -5,37 +5,17 @@ elements exchanged.
 
 usage: powers.py PROGRAM
 """
-import itertools
 import random
 import subprocess
 import sys
 
-from common.bases import all_bases
-from common.powers import product
-from common.words import is_canonical, parse, rows_text, some_basis, some_element, some_pair, turned
+from common.bases import all_pairs
+from common.powers import conjugated, power, product
+from common.words import is_canonical, parse, rows_text, some_element, some_pair, some_torsion
 
 # Groups, with the most expansions of the elements and of the bases of the conjugators tried.
 GROUPS = [(2, 1, 4, 3), (2, 2, 3, 2), (3, 1, 3, 2), (3, 2, 2, 1), (4, 1, 2, 1), (5, 2, 2, 1)]
 MOST = 6
-
-
-def power(n, r, rows, k):
-    """The canonical pair of the k-th power, from that of half the exponent."""
-    if k < 0:
-        return power(n, r, turned(rows), -k)
-    half = [power(n, r, rows, k // 2)] * 2 if k > 1 else []
-    return product(n, r, half + [rows] * (k % 2))
-
-
-def conjugated(n, r, by, rows):
-    """The canonical pair of the rows, conjugated by a pair."""
-    return product(n, r, [turned(by), rows, by])
-
-
-def some_torsion(rng, n, r, size):
-    """The words of a basis, permuted."""
-    words = some_basis(rng, n, r, size)
-    return product(n, r, [list(zip(words, rng.sample(words, len(words))))])
 
 
 def some_case(rng, n, r, most):
@@ -47,14 +27,6 @@ def some_case(rng, n, r, most):
         known = power(n, r, a, k) != power(n, r, a, 0)
         return a, conjugated(n, r, some_pair(rng, n, r, rng.randrange(most)), power(n, r, a, k)), known
     return a, product(n, r, [some(rng, n, r, rng.randrange(most + 1))]), False
-
-
-def all_pairs(n, r, most):
-    """All pairs of bases of at most so many expansions."""
-    for level in all_bases(n, r, most):
-        for froms, tos in itertools.product(level, level):
-            for order in itertools.permutations(sorted(tos)):
-                yield list(zip(sorted(froms), order))
 
 
 def ask(program, n, r, cases):

@@ -1,4 +1,5 @@
-"""The program on large inputs, each with the most seconds of user time that it may take on one core.
+"""The program on large inputs, each with the most seconds of user time that the least of three runs may take on one
+core and 1 GiB of memory; and how much longer the summary of a sample takes where it has twice as many words.
 
 usage: times.py PROGRAM
 """
@@ -10,8 +11,12 @@ import sys
 import tempfile
 from pathlib import Path
 
+from common.samples import sample
 from common.words import all_letters, behind, file_text, some_pair, turned_words
 
+MOST_BYTES = 1 << 30
+# Numbers of words for which a sample's elements aren't large, nor their powers.
+SIZES = 2_960, 5_920
 LIMITS = Path(__file__).resolve().parent.parent / "examples" / "limits"
 
 
@@ -62,6 +67,18 @@ def lengthened(words, length):
     froms = [behind(first, (1,))] + [behind(first, (2,) + z) for z in all_letters(2, length)] + middle + [last]
     tos = [first, middle[0]] + [behind(w, (c,)) for c in (2, 1) for w in middle[1:]] + [behind(last, (2,)), behind(last, (1,))]
     return list(zip(froms, tos))
+
+
+def layered(words, fan):
+    """The first word repels, the last one attracts, and what comes from the first goes to the second, then
+    through all others, and under the last one: parted by the fan in its order when it comes, and in another one
+    when it goes. So each word between them is parted by the fan in the basis."""
+    first, *middle, last = words
+    others = list(fan)
+    random.Random(50_000).shuffle(others)
+    coming = [(behind(first, (2,) + z), behind(middle[0], y)) for z, y in zip(fan, others)]
+    going = [(behind(middle[-1], z), behind(last, (2,) + y)) for z, y in zip(fan, others[::-1])]
+    return [(behind(first, (1,)), first)] + coming + list(zip(middle, middle[1:])) + going + [(last, behind(last, (1,)))]
 
 
 def rounded(words, length):
@@ -145,6 +162,11 @@ def conjugacy():
     yield "a chain of 4,998 words", chained(chain), chained([chain[0]] + middle + [chain[-1]]), "conjugate x1"
     yield "a chain of 4,998 words, and one that is crossed at its end", chained(chain), crossed(chain), "not conjugate"
     yield "1,000 first values that all fail", lettered(1_000, 0), lettered(1_000, 1), "not conjugate"
+    roots, fan = words_of(4), [z for _, z in words_of(11, 1_952)]
+    others = [roots[0]] + roots[14:0:-1] + [roots[15]]
+    yield "an atom of 56,002 words", layered(roots, fan), layered(others, fan), "conjugate x1"
+    beside, last = layered(roots[:15], fan), roots[15]
+    yield "such an atom beside one other and beside two", beside + placed(SHORT, [last]), beside + placed(SHORT, [behind(last, (1,))]) + placed(SHORT, [behind(last, (2,))]), "not conjugate"
     words, others = words_of(10, 176), words_of(10, 176)[::-1]
     yield "300 atoms of each of two kinds with equal ends, in opposite orders", atoms_of([STRAIGHT] * 300 + [CROSSED] * 300, words), atoms_of([STRAIGHT] * 300 + [CROSSED] * 300, others), "conjugate x1"
     yield "such atoms, of which one is of the other kind", atoms_of([STRAIGHT] * 300 + [CROSSED] * 300, words), atoms_of([STRAIGHT] * 299 + [CROSSED] * 301, others), "not conjugate"
@@ -249,18 +271,51 @@ def user_seconds():
     return resource.getrusage(resource.RUSAGE_CHILDREN).ru_utime
 
 
+def limited():
+    resource.setrlimit(resource.RLIMIT_AS, (MOST_BYTES, MOST_BYTES))
+
+
+def timed(program, words, script, files):
+    """The seconds of user time of a run, and the last line that it writes."""
+    with tempfile.TemporaryDirectory() as folder:
+        for file, text in files.items():
+            Path(folder, file).write_text(text, encoding="ascii")
+        before = user_seconds()
+        done = subprocess.run([program, *words], input=script.encode(), stdout=subprocess.PIPE, cwd=folder, timeout=120, preexec_fn=limited)
+        return user_seconds() - before, done.stdout.decode().rstrip("\n").rpartition("\n")[2]
+
+
+def summary_job(size):
+    """A script that asks what a summary does, and its files, by the rule of samples for so many words."""
+    files = {f"{name}.ht": file_text(rows) for name, rows in zip("ahc", sample(1, size))}
+    return "group 2 1\nload a a.ht\nload c c.ht\nbasis a\nbasis c\nconj h a c\norder a\npower a c\n", files
+
+
+def runs():
+    """The name, the words, the script, the files, the seconds, and what the last line of output begins with."""
+    for name, *more in cases():
+        yield name, ["--budget", "65536"], *more
+    yield "the summary of a sample", ["--budget", "8000", "--sample", "1"], "", {}, 5, "power 16 16"
+    for size in SIZES:
+        yield f"what a summary asks, of {size:,} words", ["--budget", "65536"], *summary_job(size), 5, "power 16 16 "
+
+
+def grows_slowly(program):
+    """Whether a summary of twice the words takes at most three times as long: N log N would be 2.2 times."""
+    small, large = (min(timed(program, ["--budget", "65536"], *summary_job(size))[0] for _ in range(3)) for size in SIZES)
+    if large > 3 * small:
+        print(f"times: a summary of twice the words takes {large:.3f} s and not {small:.3f} s")
+    return large <= 3 * small
+
+
 def main():
     program = os.path.abspath(sys.argv[1])
     wrong = 0
-    for name, script, files, most, last in cases():
-        with tempfile.TemporaryDirectory() as folder:
-            for file, text in files.items():
-                with open(os.path.join(folder, file), "w", encoding="ascii") as out:
-                    out.write(text)
-            before = user_seconds()
-            done = subprocess.run([program, "--budget", "65536"], input=script.encode(), stdout=subprocess.PIPE, cwd=folder, timeout=120)
-            took = user_seconds() - before
-        answered = done.stdout.decode().rstrip("\n").rpartition("\n")[2]
+    for name, words, script, files, most, last in runs():
+        took, answered = timed(program, words, script, files)
+        for _ in range(2):
+            if took > most:
+                took = min(took, timed(program, words, script, files)[0])
         right = answered.startswith(last)
         if not right:
             print(f"times: {name}: the last answer is {answered[:60]}")
@@ -268,6 +323,7 @@ def main():
             print(f"times: {name}: more than {most} s")
         wrong += not right or took > most
         print(f"times: {name}: {took:.3f} s")
+    wrong += not grows_slowly(program)
     return 1 if wrong else 0
 
 

@@ -2,6 +2,7 @@
 
 Rows are a tuple here, and reduced: so a word is carried exactly where some `from` word is a prefix of it.
 """
+import itertools
 from functools import lru_cache
 
 from common.words import behind, moved, turned, under
@@ -47,6 +48,14 @@ def all_bases(n, r, most):
     for _ in range(most):
         levels.append({basis - {x} | {behind(x, (c,)) for c in range(1, n + 1)} for basis in levels[-1] for x in basis})
     return levels
+
+
+def all_pairs(n, r, most):
+    """All pairs of bases of at most so many expansions."""
+    for level in all_bases(n, r, most):
+        for froms, tos in itertools.product(level, level):
+            for order in itertools.permutations(sorted(tos)):
+                yield list(zip(sorted(froms), order))
 
 
 def least(rows, levels):

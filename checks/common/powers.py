@@ -3,7 +3,7 @@
 An entry is letters and a word: what is under the letters, behind the word that is followed, goes under
 that word.
 """
-from common.words import moved, under
+from common.words import moved, turned, under
 
 
 def merged(n, entries):
@@ -53,3 +53,16 @@ def product(n, r, pairs):
             entries = followed(n, pair, entries)
         rows += [((root, z), v) for z, v in entries]
     return tuple(rows)
+
+
+def power(n, r, rows, k):
+    """The canonical pair of the k-th power, from that of half the exponent."""
+    if k < 0:
+        return power(n, r, turned(rows), -k)
+    half = [power(n, r, rows, k // 2)] * 2 if k > 1 else []
+    return product(n, r, half + [rows] * (k % 2))
+
+
+def conjugated(n, r, by, rows):
+    """The canonical pair of the rows, conjugated by a pair."""
+    return product(n, r, [turned(by), rows, by])

@@ -140,3 +140,9 @@ def some_element(rng, n, r, size):
     rng.shuffle(still)
     rng.shuffle(tos)
     return list(zip(froms, still + tos))
+
+
+def some_torsion(rng, n, r, size):
+    """The words of a basis are permuted."""
+    words = some_basis(rng, n, r, size)
+    return list(zip(words, rng.sample(words, len(words))))

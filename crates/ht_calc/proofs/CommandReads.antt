@@ -1,6 +1,6 @@
--- What a parse finds for the one option of a command, which has a default.
-use Rattle.std.proofs.Common.{◌≡◌, ◌∙◌, ◌<◌, ◌≤◌, ap, ℕ, Bool, true, false, List, [], ◌∷◌, length, is_some, Option, Some, None, Ok, refl, sym, subst, inl, inr, zero, suc, arith, slice_index, codes, map, not}
-use Rattle.std.specs.Prelude.{find, option_map, slice_get, pos, Result, IsErrAnd, IsSome}
+-- What a parse finds for the two options of a command, of which the first has a default.
+use Rattle.std.proofs.Common.{◌≡◌, ◌∙◌, ◌<◌, ◌≤◌, ap, ℕ, Bool, true, false, List, [], ◌∷◌, length, is_some, Option, Some, None, Ok, Err, refl, sym, subst, inl, inr, zero, suc, arith, slice_index, codes, map, not}
+use Rattle.std.specs.Prelude.{◌↔◌, find, option_map, slice_get, pos, Result, IsErrAnd, IsSome}
 use Rattle.std.proofs.lemmas.List.{length-map}
 use Rattle.std.specs.Borrow.{Bor}
 use Rattle.std.specs.List.{All, slice_index_or}
@@ -8,9 +8,10 @@ use Rattle.std.specs.Str.{bytes_eq}
 use Rattle.std.proofs.lemmas.List.Elements.{All-get_or, All-drop}
 use Rattle.std.proofs.lemmas.Slice.Eq.{bytes_eq-Decides}
 use Rattle.clap.specs.Texts.{items_of}
-use Rattle.clap.specs.Words.{Accepts, App, IsParsed, IsParsedFrom, IsPlain, IsPlainArg, IsSignedIn, Rule, SameRules, Text, app_of, args_of, found_of, groups_of, has_subcommand, one_text, read_as, reading_of, rule_of, without_minus, BuildsTo, FailsBy, HasKind, ReadsOne, fault_of, is_simple, is_simple_and_free, matches_of, one_of, rows_of}
+use Rattle.clap.specs.Words.{Accepts, AddsArg, App, IsParsed, new_app, with_rule, IsParsedFrom, IsPlain, IsPlainArg, IsSignedIn, Rule, SameRules, Text, app_of, args_of, found_of, groups_of, has_subcommand, one_text, read_as, reading_of, rule_of, without_minus, BuildsTo, FailsBy, HasKind, ReadsOne, fault_of, is_simple, is_simple_and_free, matches_of, one_of, rows_of}
 use Rattle.clap.specs.Facts.{Entry, EntryPasses, HasId, PassesArg, ValuesPass, WantsDefault, least_values, parser_of_value}
 use Rattle.clap.specs.Built.{IsAuto}
+use Rattle.clap.specs.Simple.{on_top}
 use Rattle.clap.specs.Walk.{is_free_arg, is_simple_arg}
 use Rattle.clap.specs.declared.builder.action.ArgAction.TheVariants.{Set, Count}
 use Rattle.clap.specs.declared.builder.arg.Arg.{Arg}
@@ -28,7 +29,7 @@ use Rattle.clap.proofs.FaultLemmas.{failed_up}
 use Rattle.clap.proofs.SimpleLemmas.{is_false, is_nil, plain_fields}
 use Rattle.clap.proofs.WalkLemmas.{both, one_text-rows}
 use Rattle.std.specs.Str.Parse.{ParsesUnsigned}
-use Rattle.ht_calc.specs.CommandLines.{IsBudgetOf, budget_app, budget_rule}
+use Rattle.ht_calc.specs.CommandLines.{IsBudgetOf, IsSampleOf, command_app, budget_rule, sample_rule}
 
 -- an entry of an id that some place has is found, and what holds of each entry holds of it
 entry_at : (P : Entry → Type 0) (xs : List Entry) (id : List ℕ) (i : ℕ) → All P xs → i < length xs
@@ -119,19 +120,27 @@ entry_reads c f id q values no_groups named has takes =
       passes_parser c e.0.now q first.0.now takes_e first.2,
     )
 
--- and so of the one argument of a command, which has a default
-one_default_reads : (old : Command) (m : ArgMatches) (p : IsParsedFrom old m) (a : Arg) (q : ValueParser) → args_of old ≡ a ∷ []
-    → IsPlain old → (out-Command old).has_globals ≡ false → WantsDefault a → TakesOne q a
+-- of two arguments with two ids
+first_of_two : (a b : Arg) → (bytes_eq b.id.now a.id.now ≡ true → ⊥) → (j : ℕ) (e : Arg) → j < length (a ∷ b ∷ [])
+    → bytes_eq (slice_index_or (a ∷ b ∷ []) j e).id.now a.id.now ≡ true → j ≡ 0
+first_of_two a b apart zero e low same = refl
+first_of_two a b apart (suc zero) e low same = absurd (apart same)
+first_of_two a b apart (suc (suc j)) e low same = absurd (omega arith)
+
+-- and so of the first of two arguments of a command, which has a default
+first_default_reads : (old : Command) (m : ArgMatches) (p : IsParsedFrom old m) (a b : Arg) (q : ValueParser) → args_of old ≡ a ∷ b ∷ []
+    → (bytes_eq b.id.now a.id.now ≡ true → ⊥) → IsPlain old → (out-Command old).has_globals ≡ false → WantsDefault a → TakesOne q a
     → (a.id.now ≡ [] → ⊥) → (IsAuto a → ⊥)
     → (t : List ℕ) × (one_text (found_of m) a.id.now ≡ Some (read_as (reading_of q) t)) × ((i : Bool) × Accepts i q t)
-one_default_reads old m p a q list plain globals wants takes named own =
+first_default_reads old m p a b q list apart plain globals wants takes named own =
     let elem : slice_index_or (args_of old) 0 a ≡ a = ap (λ l. slice_index_or l 0 a) list in
     let lt : 0 < length (args_of old) = subst (λ l. 0 < length l) (sym list) (omega arith) in
     let has : HasId (found_of m) a.id.now =
     subst (λ (x : Arg). HasId (found_of m) x.id.now) elem
     (default_present old m p globals 0 a lt (subst WantsDefault (sym elem) wants)) in
     let only : (j : ℕ) (e : Arg) → j < length (args_of old) → bytes_eq (slice_index_or (args_of old) j e).id.now (slice_index_or (args_of old) 0 a).id.now ≡ true → j ≡ 0 =
-    λ j e low same. let one : j < 1 = subst (λ l. j < length l) list low in omega arith in
+    λ j e low same. first_of_two a b apart j e (subst (λ l. j < length l) list low)
+    (subst (λ l. bytes_eq (slice_index_or l j e).id.now (slice_index_or l 0 a).id.now ≡ true) list same) in
     let own_elem : IsAuto (slice_index_or (args_of old) 0 a) → ⊥ = subst (λ (x : Arg). IsAuto x → ⊥) (sym elem) own in
     let rules : AllTakeOne p.built a.id.now q =
     λ j x high at same.
@@ -147,15 +156,24 @@ one_default_reads old m p a q list plain globals wants takes named own =
 
 -- ---- the command of this crate
 
--- a list whose image has one item has one item
-one_item : {X Y : Type 0} (f : X → Y) (xs : List X) (y : Y) → map f xs ≡ y ∷ [] → (x : X) × (xs ≡ x ∷ []) × (f x ≡ y)
-one_item f [] y e = cc
-one_item f (x ∷ []) y e = (x, refl, ap (λ l. slice_index_or l 0 y) e)
-one_item f (x ∷ z ∷ xs) y e = let bad = ap length e in absurd (omega arith)
+-- a command without options is this one with the two options
+pub command_is : (old mid new : Command) (a b : Arg) → app_of old ≡ on_top (λ s. record s { no_binary_name = true; disable_help_flag = true }) (new_app (codes "htcalc"))
+    → rule_of a ≡ budget_rule → a.global ≡ false → AddsArg old a mid → rule_of b ≡ sample_rule → b.global ≡ false → AddsArg mid b new → app_of new ≡ command_app
+command_is old mid new a b top first first_own adds second second_own more =
+    more.shape second_own ∙ ap (λ (rule : Rule). with_rule (app_of mid) rule) second
+    ∙ ap (λ (app : App). with_rule app sample_rule) (adds.shape first_own ∙ ap (λ (rule : Rule). with_rule (app_of old) rule) first ∙ ap (λ (app : App). with_rule app budget_rule) top)
 
-all_of_one : (P : Arg → Type 0) (a : Arg) → P a → All P (a ∷ [])
-all_of_one P a h zero d lt = h
-all_of_one P a h (suc k) d lt = absurd (omega arith)
+-- a list whose image has two items has two
+two_items : {X Y : Type 0} (f : X → Y) (xs : List X) (y z : Y) → map f xs ≡ y ∷ z ∷ [] → (x : X) × (w : X) × (xs ≡ x ∷ w ∷ []) × (f x ≡ y) × (f w ≡ z)
+two_items f [] y z e = let bad = ap length e in absurd (omega arith)
+two_items f (x ∷ []) y z e = let bad = ap length e in absurd (omega arith)
+two_items f (x ∷ w ∷ []) y z e = (x, w, refl, ap (λ l. slice_index_or l 0 y) e, ap (λ l. slice_index_or l 1 y) e)
+two_items f (x ∷ w ∷ v ∷ xs) y z e = let bad = ap length e in absurd (omega arith)
+
+all_of_two : (P : Arg → Type 0) (a b : Arg) → P a → P b → All P (a ∷ b ∷ [])
+all_of_two P a b h k zero d lt = h
+all_of_two P a b h k (suc zero) d lt = k
+all_of_two P a b h k (suc (suc j)) d lt = absurd (omega arith)
 
 none_of : {X : Type 0} (o : Option X) → not (is_some o) ≡ true → o ≡ None
 none_of None e = refl
@@ -171,10 +189,10 @@ simple_facts a simple =
     let s = both _ _ r.1 in
     (is_nil _ p.0, is_nil _ q.0, is_nil _ r.0, none_of _ s.0)
 
-plain_arg : (a : Arg) → rule_of a ≡ budget_rule → IsPlainArg a
-plain_arg a e =
-    let facts = simple_facts a (ap (λ (r : Rule). r.is_simple) e) in
-    let free : is_free_arg a ≡ true = ap (λ (r : Rule). r.is_free) e in
+plain_arg : (a : Arg) (rule : Rule) → rule.is_simple ≡ true → rule.is_free ≡ true → rule_of a ≡ rule → IsPlainArg a
+plain_arg a rule simple is_free e =
+    let facts = simple_facts a (ap (λ (r : Rule). r.is_simple) e ∙ simple) in
+    let free : is_free_arg a ≡ true = ap (λ (r : Rule). r.is_free) e ∙ is_free in
     let s = both _ _ free in
     let t = both _ _ s.1 in
     (is_false _ s.0, is_nil _ t.0, facts.0, facts.2)
@@ -195,19 +213,23 @@ wants_default a e =
     let one : length (items_of a.default_vals) ≡ 1 = simp length-map at (ap length texts) in
     ((simple_facts a (ap (λ (r : Rule). r.is_simple) e)).1, omega arith)
 
--- what a parse finds for the option
-budget_reads : (old built : Command) (m : ArgMatches) → app_of old ≡ budget_app → BuildsTo old built
+-- what a parse finds for the first option
+budget_reads : (old built : Command) (m : ArgMatches) → app_of old ≡ command_app → BuildsTo old built
     → ((out-Command built).has_globals ≡ false → IsParsed built (found_of m) (has_subcommand m))
     → (t : List ℕ) × (one_text (found_of m) (codes "budget") ≡ Some (without_minus t)) × IsSignedIn (pos 1) (pos 65536) t
 budget_reads old built m is from parsed =
-    let one = one_item rule_of (args_of old) budget_rule (ap (λ (a : App). a.top.rules) is) in
-    let a = one.0 in
-    let id : a.id.now ≡ codes "budget" = ap (λ (r : Rule). r.id) one.2 in
+    let two = two_items rule_of (args_of old) budget_rule sample_rule (ap (λ (a : App). a.top.rules) is) in
+    let a = two.0 in
+    let b = two.1 in
+    let id : a.id.now ≡ codes "budget" = ap (λ (r : Rule). r.id) two.3 in
+    let other : b.id.now ≡ codes "sample" = ap (λ (r : Rule). r.id) two.4 in
     let first : (t : List ℕ) → a.id.now ≡ t → slice_index t 0 ≡ 98 = λ t e. rw (← e, id) refl in
     let fields = plain_fields old (ap (λ (a : App). a.top.is_plain) is) in
-    let plain : IsPlain old = (subst (All IsPlainArg) (sym one.1) (all_of_one IsPlainArg a (plain_arg a one.2)), fields.groups) in
-    let got = one_default_reads old m (record { built = built; from = from; parsed = parsed }) a (parser.Signed (pos 1) (pos 65536)) one.1
-    plain fields.globals (wants_default a one.2) (takes_one a one.2)
+    let plain : IsPlain old =
+    (subst (All IsPlainArg) (sym two.2) (all_of_two IsPlainArg a b (plain_arg a budget_rule refl refl two.3) (plain_arg b sample_rule refl refl two.4)), fields.groups) in
+    let got = first_default_reads old m (record { built = built; from = from; parsed = parsed }) a b (parser.Signed (pos 1) (pos 65536)) two.2
+    (λ same. let bad : 115 ≡ 98 = first (codes "sample") (sym ((bytes_eq-Decides b.id.now a.id.now).0 same) ∙ other) in absurd (omega arith))
+    plain fields.globals (wants_default a two.3) (takes_one a two.3)
     (λ e. let bad : 0 ≡ 98 = first [] e in absurd (omega arith))
     (λ auto. elim auto [
       | inl h ↦ let bad : 104 ≡ 98 = first _ h in absurd (omega arith)
@@ -215,7 +237,7 @@ budget_reads old built m is from parsed =
     ]) in
     (got.0, subst (λ w. one_text (found_of m) w ≡ Some (without_minus got.0)) id got.1, got.2.1)
 
--- the text and the number that there are for the option, where r is what a typed getter reads
+-- the text and the number that there are for the first option, where r is what a typed getter reads
 pub record Given (f : Found) (r : Option ℕ) : Type 0 where
   pub text : Text
   pub found : one_text f (codes "budget") ≡ Some text
@@ -225,7 +247,7 @@ pub record Given (f : Found) (r : Option ℕ) : Type 0 where
   pub low : 1 ≤ number
   pub high : number ≤ 65536
 
-pub given : (E : Type 0) (G : List ℕ → Result ℕ E → Type 0) (old built : Command) (m : ArgMatches) (r : Option ℕ) → app_of old ≡ budget_app
+pub given : (E : Type 0) (G : List ℕ → Result ℕ E → Type 0) (old built : Command) (m : ArgMatches) (r : Option ℕ) → app_of old ≡ command_app
     → BuildsTo old built → ((out-Command built).has_globals ≡ false → IsParsed built (found_of m) (has_subcommand m))
     → ((t : List ℕ) → one_text (found_of m) (codes "budget") ≡ Some t → ReadsOne G t r)
     → ((u : List ℕ) (x : Result ℕ E) → G u x → ParsesUnsigned 32 10 u x) → Given (found_of m) r
@@ -246,11 +268,11 @@ given E G old built m r is from parsed value only =
 
 -- ---- what the number of a parse is, with what clap says of this command
 
-budget_simple : is_simple budget_app ≡ true
-budget_simple = refl
+command_simple : is_simple command_app ≡ true
+command_simple = refl
 
-budget_simple_and_free : is_simple_and_free budget_app ≡ true
-budget_simple_and_free = refl
+command_simple_and_free : is_simple_and_free command_app ≡ true
+command_simple_and_free = refl
 
 pub is_some_by : {f : Found} {r : Option ℕ} → Given f r → IsSome r
 is_some_by got = subst IsSome (sym got.is) refl
@@ -261,27 +283,56 @@ same_number {b = b} e got = let same : Some got.number ≡ Some b = sym got.is �
 pub limits_by : {f : Found} {r : Option ℕ} {b : ℕ} → r ≡ Some b → Given f r → (1 ≤ b) × (b ≤ 65536)
 limits_by e got = let same = same_number e got in (subst (λ n. 1 ≤ n) same got.low, subst (λ n. n ≤ 65536) same got.high)
 
-pub budget_by : (app : App) (words : List Text) → app ≡ budget_app → (f : Found) {r : Option ℕ} {b : ℕ} → r ≡ Some b → Given f r
+pub budget_by : (app : App) (words : List Text) → app ≡ command_app → (f : Found) {r : Option ℕ} {b : ℕ} → r ≡ Some b → Given f r
     → (is_simple app ≡ true → rows_of f ≡ matches_of app words) → IsBudgetOf words b
 budget_by app words is f e got rows =
-    let same : rows_of f ≡ matches_of budget_app words =
-    subst (λ a. rows_of f ≡ matches_of a words) is (rows (subst (λ a. is_simple a ≡ true) (sym is) budget_simple)) in
+    let same : rows_of f ≡ matches_of command_app words =
+    subst (λ a. rows_of f ≡ matches_of a words) is (rows (subst (λ a. is_simple a ≡ true) (sym is) command_simple)) in
     record {
       text = got.text;
       given = subst (λ rs. one_of (codes "budget") rs ≡ Some got.text) same (sym (one_text-rows f (codes "budget")) ∙ got.found);
       number = subst (λ n. ParsesUnsigned {E = ℕ} 32 10 got.text (Ok n)) (same_number e got) got.parses;
     }
 
+-- ---- the number of the other option
+
+-- what is read of a text that is a number
+read_number : (E : Type 0) (G : List ℕ → Result ℕ E → Type 0) (t : List ℕ) (r : Option ℕ) (number : ℕ) → ((u : List ℕ) (x : Result ℕ E) → G u x → ParsesUnsigned 64 10 u x)
+    → ReadsOne G t r → ParsesUnsigned {E = ℕ} 64 10 t (Ok number) → r ≡ Some number
+read_number E G t None number only reads parses = let none = only t (Err reads.0) reads.1 in absurd (none parses.0)
+read_number E G t (Some n) number only reads parses = let some = only t (Ok n) reads in ap Some (some.1 ∙ sym parses.1)
+
+pub sample_by : (E : Type 0) (G : List ℕ → Result ℕ E → Type 0) (app : App) (words : List Text) (f : Found) (r : Option ℕ) → app ≡ command_app
+    → (is_simple app ≡ true → rows_of f ≡ matches_of app words) → (one_text f (codes "sample") ≡ None → r ≡ None)
+    → ((t : List ℕ) → one_text f (codes "sample") ≡ Some t → ReadsOne G t r)
+    → ((u : List ℕ) (x : Result ℕ E) → G u x → ParsesUnsigned 64 10 u x) → (number : ℕ) → IsSampleOf words number ↔ (r ≡ Some number)
+sample_by E G app words f r is rows none value only number = (there, back (one_text f (codes "sample")) refl)
+  where
+    same : one_text f (codes "sample") ≡ one_of (codes "sample") (matches_of command_app words)
+    same = one_text-rows f (codes "sample") ∙ ap (one_of (codes "sample")) (subst (λ a. rows_of f ≡ matches_of a words) is (rows (subst (λ a. is_simple a ≡ true) (sym is) command_simple)))
+
+    there : IsSampleOf words number → r ≡ Some number
+    there given = read_number E G given.text r number only (value given.text (same ∙ given.given)) given.parses
+
+    back : (o : Option (List ℕ)) → one_text f (codes "sample") ≡ o → r ≡ Some number → IsSampleOf words number
+    back None found some = let bad = sym (none found) ∙ some in cc
+    back (Some t) found some =
+        let reads : ReadsOne G t (Some number) = subst (ReadsOne G t) some (value t found) in record {
+          text = t;
+          given = sym same ∙ found;
+          parses = only t (Ok number) reads;
+        }
+
 -- ---- when the parse fails
 
-at_budget : (P : App → Type 0) (app : App) → app ≡ budget_app → (is_simple_and_free app ≡ true → P app) → P budget_app
-at_budget P app is at = subst P is (at (subst (λ a. is_simple_and_free a ≡ true) (sym is) budget_simple_and_free))
+at_command : (P : App → Type 0) (app : App) → app ≡ command_app → (is_simple_and_free app ≡ true → P app) → P command_app
+at_command P app is at = subst P is (at (subst (λ a. is_simple_and_free a ≡ true) (sym is) command_simple_and_free))
 
-pub passed : (app : App) (words : List Text) → app ≡ budget_app → (is_simple_and_free app ≡ true → fault_of app words ≡ [])
-    → fault_of budget_app words ≡ []
-passed app words is at = at_budget (λ a. fault_of a words ≡ []) app is at
+pub passed : (app : App) (words : List Text) → app ≡ command_app → (is_simple_and_free app ≡ true → fault_of app words ≡ [])
+    → fault_of command_app words ≡ []
+passed app words is at = at_command (λ a. fault_of a words ≡ []) app is at
 
-pub failed : {T : Type 0} (app : App) (words : List Text) (r : Result T Error) (e : Error) → app ≡ budget_app
-    → (is_simple_and_free app ≡ true → HasKind (fault_of app words) e) → IsErrAnd r (λ x. x ≡ e) → FailsBy (fault_of budget_app words) r
+pub failed : {T : Type 0} (app : App) (words : List Text) (r : Result T Error) (e : Error) → app ≡ command_app
+    → (is_simple_and_free app ≡ true → HasKind (fault_of app words) e) → IsErrAnd r (λ x. x ≡ e) → FailsBy (fault_of command_app words) r
 failed app words r e is at same =
-    failed_up r e (λ _. fault_of budget_app words ≡ []) (fault_of budget_app words) same (at_budget (λ a. HasKind (fault_of a words) e) app is at)
+    failed_up r e (λ _. fault_of command_app words ≡ []) (fault_of command_app words) same (at_command (λ a. HasKind (fault_of a words) e) app is at)

@@ -18,4 +18,6 @@ pub mod PowerSteps
 pub mod ConjugatorLaws
 pub mod ConjugatorSteps
 pub mod StepLaws
+pub mod SummaryRuns
+pub mod SummarySteps
 pub mod TermLaws

@@ -1,5 +1,5 @@
 -- Runs, line by line.
-use Rattle.std.proofs.Common.{◌≡◌, ◌≤◌, ℕ, suc, ◌+◌, inl, inr, List, [], ◌∷◌, ◌++◌, ap, refl, sym, ◌∙◌, subst, append_assoc, append-nil, length, length-append, take, arith}
+use Rattle.std.proofs.Common.{◌≡◌, ◌≤◌, ℕ, suc, ◌+◌, Bool, inl, inr, List, [], ◌∷◌, ◌++◌, ap, refl, sym, ◌∙◌, subst, append_assoc, append-nil, length, length-append, arith}
 use Rattle.std.specs.Prelude.{Option, Any, IsTrue, ◌↔◌, ◌⊎◌}
 use Rattle.std.proofs.lemmas.Grind.{flat_map-append}
 use Rattle.std.proofs.lemmas.List.{take-append-le}
@@ -31,20 +31,33 @@ run_more old mid end (first ∷ lines) fetches made (one ∷ answers) line answe
 run_more old mid end [] fetches made (one ∷ answers) line answer run step = absurd run
 run_more old mid end (first ∷ lines) fetches made [] line answer run step = absurd run
 
--- some answer is a refusal, with one more answer
-any_more : (answers : List Answer) (answer : Answer) → (Any IsRefusal answers ⊎ IsRefusal answer) ↔ Any IsRefusal (answers ++ answer ∷ [])
-any_more answers answer = (to, back)
+-- some of the items have a property, with one more item
+any_more : {X : Type 0} (P : X → Type 0) (items : List X) (item : X) → (Any P items ⊎ P item) ↔ Any P (items ++ item ∷ [])
+any_more {X} P items item = (to, back)
   where
-    to : Any IsRefusal answers ⊎ IsRefusal answer → Any IsRefusal (answers ++ answer ∷ [])
-    to (inl some) = let c = Contains-append_left answers (answer ∷ []) some.1 (some.0, some.2, some.3) in (c.0, some.1, c.1, c.2, some.4)
-    to (inr is) = let c = Contains-push answers answer in (c.0, answer, c.1, c.2, is)
+    to : Any P items ⊎ P item → Any P (items ++ item ∷ [])
+    to (inl some) = let c = Contains-append_left items (item ∷ []) some.1 (some.0, some.2, some.3) in (c.0, some.1, c.1, c.2, some.4)
+    to (inr is) = let c = Contains-push items item in (c.0, item, c.1, c.2, is)
 
-    back : Any IsRefusal (answers ++ answer ∷ []) → Any IsRefusal answers ⊎ IsRefusal answer
+    back : Any P (items ++ item ∷ []) → Any P items ⊎ P item
     back some =
-        elim (Contains-push_cases answers answer some.1 (some.0, some.2, some.3)) [
+        elim (Contains-push_cases items item some.1 (some.0, some.2, some.3)) [
           | inl c ↦ inl (c.0, some.1, c.1, c.2, some.4)
-          | inr same ↦ inr (subst IsRefusal (sym same) some.4)
+          | inr same ↦ inr (subst P (sym same) some.4)
         ]
+
+-- a flag says so, and one more item is counted
+pub flag_more : {X : Type 0} (P : X → Type 0) (items : List X) (item : X) (some now : Bool) → IsTrue some ↔ Any P items → IsTrue now ↔ (IsTrue some ⊎ P item)
+    → IsTrue now ↔ Any P (items ++ item ∷ [])
+flag_more {X} P items item some now was is = ((λ told. (any_more P items item).0 (onto (is.0 told))), (λ found. is.1 (from ((any_more P items item).1 found))))
+  where
+    onto : IsTrue some ⊎ P item → Any P items ⊎ P item
+    onto (inl told) = inl (was.0 told)
+    onto (inr has) = inr has
+
+    from : Any P items ⊎ P item → IsTrue some ⊎ P item
+    from (inl found) = inl (was.1 found)
+    from (inr has) = inr has
 
 -- one more line is answered
 pub answered_more : (files : Option (List (List ℕ × List ℕ))) (before : Origin) (mid now : Calls) (lines : List (List ℕ)) (line : List ℕ) (old new : Answering) (O all : List ℕ) (made : List Fetched) (answer : Answer)
@@ -59,18 +72,10 @@ answered_more files before mid now lines line old new O all made answer was step
   fetched = asked_more files before.calls.faults mid.faults now.faults was.fetches made was.fetched fetched;
   all = all_more before.calls.asked mid.asked now.asked was.fetches made was.all all_fetched;
   output = text ∙ ap (λ (o : List ℕ). o ++ answer_text answer) was.output ∙ sym (flat_map-append answer_text was.answers (answer ∷ []) ∙ ap (λ (o : List ℕ). output_of was.answers ++ o) (append-nil (answer_text answer)));
-  refusal = (λ is. (any_more was.answers answer).0 (onto (refused.0 is)), λ some. refused.1 (from ((any_more was.answers answer).1 some)));
+  refusal = flag_more IsRefusal was.answers answer old.some_refused new.some_refused was.refusal refused;
   reached = rw length-append (omega (arith, was.reached));
   written = ap output_of (take-append-le before.done was.answers (answer ∷ []) was.reached) ∙ was.written;
 }
-  where
-    onto : IsTrue old.some_refused ⊎ IsRefusal answer → Any IsRefusal was.answers ⊎ IsRefusal answer
-    onto (inl some) = inl (was.refusal.0 some)
-    onto (inr is) = inr is
-
-    from : Any IsRefusal was.answers ⊎ IsRefusal answer → IsTrue old.some_refused ⊎ IsRefusal answer
-    from (inl some) = inl (was.refusal.1 some)
-    from (inr is) = inr is
 
 -- each line has one answer
 pub run_counts : (old new : State) (lines : List (List ℕ)) (fetches : List Fetched) (answers : List Answer) → Run old lines fetches answers new → length answers ≡ length lines

@@ -17,3 +17,4 @@ pub mod ShortLines
 pub mod Progress
 pub mod Tables
 pub mod CommandLines
+pub mod Summaries

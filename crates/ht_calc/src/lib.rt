@@ -1,8 +1,8 @@
 //! The calculator: a session that answers lines, and a run over a whole script.
 //!
 //! `run(alloc, &words, &mut script, &mut files, &mut out)` reads a script, answers its lines and
-//! writes the answers. `Session::new(alloc, 2000).answer(alloc, b"group 2 1", &mut files)?`
-//! answers one.
+//! writes the answers; or it writes a summary of a sample, where the words ask for one.
+//! `Session::new(alloc, 2000).answer(alloc, b"group 2 1", &mut files)?` answers one line.
 //!
 //! - `script`: a run over a whole script
 //! - `lines`: bytes to lines
@@ -13,6 +13,8 @@
 //! - `bindings`: what is bound to names
 //! - `product`: products of powers of bound elements
 //! - `words`: the words of the command line
+//! - `summary`: a summary of a sample
+//! - `summed`: its lines, and their texts
 //! - `part`: the two parts of a bound element
 //! - `share`: whether two words share an orbit of a bound element
 //! - `conjugator`: whether two bound elements are conjugate, and what conjugates them
@@ -35,6 +37,8 @@ mod script;
 mod session;
 mod share;
 mod status;
+mod summary;
+mod summed;
 mod words;
 
 pub use decider::BasisDecider;

@@ -267,7 +267,12 @@ impl Session {
     }
 
     // Asks the element that the name is bound to.
-    fn ask(&self, alloc: Global, question: Question, name: Name) -> Result<Answer, NoMemory>
+    pub(crate) fn ask(
+        &self,
+        alloc: Global,
+        question: Question,
+        name: Name,
+    ) -> Result<Answer, NoMemory>
         ensures step { IfOk result (λ answer. Does self.now (asks question name) answer self.now) }
         ensures text { IfOk result HasAnswerText }
     {

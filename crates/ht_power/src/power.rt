@@ -27,8 +27,9 @@ use std::alloc::Global;
 ///    as exponents of the infinite parts (`Large` for the parts, then the powers); where these powers are
 ///    conjugate, times the common order of the periodic parts (`Wide`).
 ///
-/// Takes as long as finding both bases and the kinds of their words, the powers (`power`), and a decision
-/// of the decider for each prime d, or each of the two signs.
+/// Takes as long as finding both bases and the kinds of their words, the powers (`power`; for finite
+/// orders a few passes over the words for each binary digit of an exponent), and a decision of the
+/// decider for each prime d, or each of the two signs.
 pub fn power_conjugate<D: Decider>(
     alloc: Global,
     a: &Element,

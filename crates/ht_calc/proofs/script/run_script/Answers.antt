@@ -1,4 +1,4 @@
-use Rattle.std.proofs.Common.{◌≡◌, ◌≤◌, ℕ, inl, List, [], ◌++◌, length, take, sym, ap, ◌∙◌, subst, arith, length-take}
+use Rattle.std.proofs.Common.{◌≡◌, ◌≤◌, inl, [], ◌++◌, length, take, sym, ◌∙◌, subst, arith, length-take}
 use Rattle.std.proofs.KnownBytes.{Appends-trans}
 use Rattle.std.specs.Io.KnownBytes.{IsAtEnd}
 use Rattle.ht_calc.specs.declared.lines.Extent.{Extent}

@@ -1,4 +1,4 @@
-use Rattle.std.proofs.Common.{◌≡◌, ◌≤◌, ◌-◌, ◌*◌, List, ℕ, [], length}
+use Rattle.std.proofs.Common.{◌≡◌, ◌-◌, ◌*◌, List, ℕ, [], length}
 use Rattle.std.specs.Io.KnownBytes.{Appends}
 use Rattle.ht_calc.specs.declared.lines.Extent.TheVariants.{Within}
 use Rattle.ht_calc.specs.Progress.{IsReady, Stands}
