@@ -9,7 +9,7 @@ import random
 import subprocess
 import sys
 
-from common.bases import all_pairs
+from common.cases import answered_cases
 from common.powers import conjugated, product
 from common.words import all_letters, behind, is_canonical, longest, moved, parse, rows_text, some_element, some_letters, some_pair, some_torsion
 
@@ -108,21 +108,14 @@ def main():
     for fault in not_kept_faults(sys.argv[1], rng):
         wrong += 1
         print(f"conjugators: long words: {fault}")
-    for n, r, most, tried in GROUPS:
-        cases = [some_case(rng, n, r, most) for _ in range(60)]
-        pairs = list(all_pairs(n, r, tried))
-        answered = ask(sys.argv[1], n, r, cases)
-        if len(answered) != len(cases):
-            wrong += 1
-            print(f"conjugators: answers for {len(answered)} cases of {len(cases)}")
-        for place, (case, answers) in enumerate(zip(cases, answered)):
-            yes += answers[5].startswith("conjugate x")
-            no += answers[5] == "not conjugate"
-            infinite += "order infinite" in answers
-            found = faults(n, r, place, case, answers, pairs)
-            wrong += found != []
-            for fault in found:
-                print(f"conjugators: group {n} {r}, {rows_text(case[0])} and {rows_text(case[1])} are answered {answers}: {fault}")
+    for n, r, pairs, place, case, answers in answered_cases(sys.argv[1], rng, GROUPS, some_case, ask):
+        yes += any(answer.startswith("conjugate x") for answer in answers[5:6])
+        no += answers[5:6] == ["not conjugate"]
+        infinite += "order infinite" in answers
+        found = faults(n, r, place, case, answers, pairs) if answers else ["no answer"]
+        wrong += found != []
+        for fault in found:
+            print(f"conjugators: group {n} {r}, {rows_text(case[0])} and {rows_text(case[1])} are answered {answers}: {fault}")
     print(f"conjugators: {yes} conjugate, {no} not, {infinite} with an infinite order, {wrong} wrong")
     return 1 if wrong else 0
 

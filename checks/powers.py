@@ -9,7 +9,7 @@ import random
 import subprocess
 import sys
 
-from common.bases import all_pairs
+from common.cases import answered_cases
 from common.powers import conjugated, power, product
 from common.words import is_canonical, parse, rows_text, some_element, some_pair, some_torsion
 
@@ -73,20 +73,13 @@ def faults(n, r, case, answers, pairs):
 def main():
     rng = random.Random(2016)
     yes = no = wrong = 0
-    for n, r, most, tried in GROUPS:
-        cases = [some_case(rng, n, r, most) for _ in range(60)]
-        pairs = list(all_pairs(n, r, tried))
-        answered = ask(sys.argv[1], n, r, cases)
-        if len(answered) != len(cases):
-            wrong += 1
-            print(f"powers: answers for {len(answered)} cases of {len(cases)}")
-        for case, answers in zip(cases, answered):
-            yes += answers[0].startswith("power ") and answers[0] != "power none"
-            no += answers[0] == "power none"
-            found = faults(n, r, case, answers, pairs)
-            wrong += found != []
-            for fault in found:
-                print(f"powers: group {n} {r}, {rows_text(case[0])} and {rows_text(case[1])} are answered {answers}: {fault}")
+    for n, r, pairs, _, case, answers in answered_cases(sys.argv[1], rng, GROUPS, some_case, ask):
+        no += answers[:1] == ["power none"]
+        yes += answers[:1] not in ([], ["power none"])
+        found = faults(n, r, case, answers, pairs) if answers else ["no answer"]
+        wrong += found != []
+        for fault in found:
+            print(f"powers: group {n} {r}, {rows_text(case[0])} and {rows_text(case[1])} are answered {answers}: {fault}")
     print(f"powers: {yes} with conjugate powers, {no} without, {wrong} wrong")
     return 1 if wrong else 0
 
